@@ -1,0 +1,34 @@
+-- Document 01, "Section bytes": all numbers are in the section's byte order. One definition, over the list, the place, the
+-- width and the order, is what every reader of a number is held to.
+use Prim.Native.Nat.{ℕ, _+_, _-_, _*_, _^_}
+use mathlib.Core.List.{List, [], _∷_, reverse}
+use lib.ListN.{take, drop}
+use Rattle.numbers.specs.declared.field.Order.{Order}
+use Rattle.numbers.specs.declared.field.Order.the-variants.{Little, Big}
+
+-- the number whose digits to the base 256 are these bytes, the least first
+unfoldable pub digits : List ℕ → ℕ
+digits [] = 0
+digits (byte ∷ bytes) = byte + 256 * digits bytes
+
+-- the number that bytes make in an order: little has the least digit first, big has it last
+unfoldable pub number : Order → List ℕ → ℕ
+number Little bytes = digits bytes
+number Big bytes = digits (reverse bytes)
+
+-- the unsigned number of `width` bytes that begins at place `at`
+unfoldable pub fieldOf : List ℕ → ℕ → ℕ → Order → ℕ
+fieldOf s at width order = number order (take width (drop at s))
+
+-- one byte is the same number in either order
+unfoldable pub byteOf : List ℕ → ℕ → ℕ
+byteOf s at = fieldOf s at 1 Little
+
+-- a width is given by a code: 0, 1, 2, 3 for 1, 2, 4, 8 bytes
+abbrev pub widthOf : ℕ → ℕ
+widthOf code = 2 ^ code
+
+-- the place of digit k, the least being 0, of the number of `width` bytes that begins at `at`
+unfoldable pub digitPlace : Order → ℕ → ℕ → ℕ → ℕ
+digitPlace Little at width k = at + k
+digitPlace Big at width k = at + (width - 1 - k)
