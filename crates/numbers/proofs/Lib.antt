@@ -1,1 +1,3 @@
+pub mod DiffLaws
 pub mod FieldLaws
+pub mod SignedLaws
