@@ -1,3 +1,5 @@
+pub mod AddressLaws
 pub mod DiffLaws
 pub mod FieldLaws
+pub mod HeldLaws
 pub mod SignedLaws

@@ -2,7 +2,11 @@
 -- width and the order, is what every reader of a number is held to.
 use Prim.Native.Nat.{ℕ, _+_, _-_, _*_, _^_}
 use mathlib.Core.List.{List, [], _∷_, reverse}
-use lib.ListN.{take, drop}
+use mathlib.Core.Bool.{true, false}
+use lib.Dec.{leb}
+use lib.ListN.{length, take, drop}
+use Rattle.numbers.specs.declared.field.Number.{Number}
+use Rattle.numbers.specs.declared.field.Number.the-variants.{Is, Outside, NoWidth}
 use Rattle.numbers.specs.declared.field.Order.{Order}
 use Rattle.numbers.specs.declared.field.Order.the-variants.{Little, Big}
 
@@ -24,11 +28,13 @@ fieldOf s at width order = number order (take width (drop at s))
 unfoldable pub byteOf : List ℕ → ℕ → ℕ
 byteOf s at = fieldOf s at 1 Little
 
--- a width is given by a code: 0, 1, 2, 3 for 1, 2, 4, 8 bytes
-abbrev pub widthOf : ℕ → ℕ
-widthOf code = 2 ^ code
-
 -- the place of digit k, the least being 0, of the number of `width` bytes that begins at `at`
 unfoldable pub digitPlace : Order → ℕ → ℕ → ℕ → ℕ
 digitPlace Little at width k = at + k
 digitPlace Big at width k = at + (width - 1 - k)
+
+-- a number by the code of its width, 0, 1, 2, 3 for 1, 2, 4, 8 bytes, where it is wholly inside
+unfoldable pub numberOf : List ℕ → ℕ → ℕ → Order → Number
+numberOf s at code order =
+    elim (leb code 3)
+    [ true ↦ elim (leb (at + 2 ^ code) (length s)) [ true ↦ Is (fieldOf s at (2 ^ code) order) | false ↦ Outside ] | false ↦ NoWidth ]

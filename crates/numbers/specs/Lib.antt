@@ -1,2 +1,4 @@
+pub mod Address
 pub mod Field
+pub mod Held
 pub mod Signed

@@ -3,11 +3,20 @@
 ghost use mathlib.Core.Path.{_≡_};
 ghost use Prim.Native.Nat.{_+_, _≤_, _<_, _^_};
 ghost use lib.ListN.{length, getD};
-ghost use Rattle.numbers.specs.Field.{fieldOf, byteOf, digitPlace};
+ghost use Rattle.numbers.specs.Field.{fieldOf, byteOf, digitPlace, numberOf};
 
 pub enum Order {
     Little,
     Big,
+}
+
+// What reading a number finds.
+pub enum Number {
+    Is(u64),
+    // Some of its bytes would lie outside.
+    Outside,
+    // No width has that code.
+    NoWidth,
 }
 
 // Digit k, the least being 0, of the number of `width` bytes at `at`.
@@ -105,4 +114,36 @@ pub fn width_of(code: usize) -> usize
     ensures { λ r. ⌜ r ≡ 2 ^ code ⌝ }
 {
     1 << code
+}
+
+// The number of 1, 2 or 4 bytes at `at`, by the code of its width.
+pub fn field_at(s: &[u8], at: usize, code: usize, order: Order) -> u32
+    requires { ⌜ (code ≤ 2) × (at + 2 ^ code ≤ length (now s)) ⌝ }
+    ensures { λ r. ⌜ r ≡ fieldOf (now (s .entry)) at (2 ^ code) order ⌝ }
+{
+    match code {
+        0 => u8_at(s, at) as u32,
+        1 => u16_at(s, at, order) as u32,
+        _ => u32_at(s, at, order),
+    }
+}
+
+// The number of 1, 2, 4 or 8 bytes at `at`, for any place and any code.
+pub fn number_at(s: &[u8], at: usize, code: usize, order: Order) -> Number
+    ensures { λ r. ⌜ r ≡ numberOf (now (s .entry)) at code order ⌝ }
+{
+    if 3 < code {
+        return Number::NoWidth;
+    }
+    let width = width_of(code);
+    if s.len() < width {
+        return Number::Outside;
+    }
+    if s.len() - width < at {
+        return Number::Outside;
+    }
+    if code == 3 {
+        return Number::Is(u64_at(s, at, order));
+    }
+    Number::Is(field_at(s, at, code, order) as u64)
 }

@@ -1,5 +1,6 @@
 // Signed offsets: decoded in one place, passed whole, and unpacked in one place into unsigned numbers.
 use crate::field::Order;
+use crate::field::field_at;
 ghost use mathlib.Core.Path.{_≡_};
 ghost use Prim.Native.Nat.{_+_, _≤_, _^_};
 ghost use lib.ListN.{length};
@@ -40,6 +41,14 @@ pub fn offset_of(number: u32, code: usize) -> Offset
     Offset {
         by: n as i64 - full as i64,
     }
+}
+
+// The signed number of 1, 2 or 4 bytes at `at`, by the code of its width.
+pub fn offset_at(s: &[u8], at: usize, code: usize, order: Order) -> Offset
+    requires { ⌜ (code ≤ 2) × (at + 2 ^ code ≤ length (now s)) ⌝ }
+    ensures { λ r. ⌜ r ≡ offsetOf (2 ^ code) (fieldOf (now (s .entry)) at (2 ^ code) order) ⌝ }
+{
+    offset_of(field_at(s, at, code, order), code)
 }
 
 // The one place where an offset becomes an unsigned number.

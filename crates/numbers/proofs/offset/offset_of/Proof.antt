@@ -20,7 +20,7 @@ returns c =
 
 -- what the code computes in the upper half
 upper : (c : tie.Else1) → toZ w64 (c .before .before .args .number) -ℤ toZ w64 (c .before .full-of .result)
-      ≡ pos (c .before .before .args .number) -ℤ pos (c .before .full-of .result)
+    ≡ pos (c .before .before .args .number) -ℤ pos (c .before .full-of .result)
 upper c = rw (as-signed (c .before .before .args .number) (omega arith), as-signed (c .before .full-of .result) (omega arith))
 
 upper-fits : (c : tie.Else1) → SFits w64 (pos (c .before .before .args .number) -ℤ pos (c .before .full-of .result))

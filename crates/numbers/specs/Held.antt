@@ -1,0 +1,32 @@
+-- Starts, and the distance d that they are compared with. Both are exact whole numbers here. The code holds each as an
+-- unsigned number 2 ^ 32 above its value, so that none is below 0 and every comparison is one of plain u64.
+use Prim.Native.Nat.{ℕ, _≤_, _<_, _*_, _^_, min}
+use lib.IntN.{ℤ, pos, negsuc, _+ℤ_, _-ℤ_}
+use Rattle.numbers.specs.Signed.{signedOf}
+
+-- "The start field, plus the field's own position in the section when flag 0x4 is set. It is a signed whole number and never
+-- wraps." (The position is 0 where the flag is not set.)
+unfoldable pub startAt : ℕ → ℕ → ℤ
+startAt field position = signedOf 4 field +ℤ pos position
+
+-- "Let d be PC minus section address, a whole number that may be negative."
+unfoldable pub distance : ℕ → ℕ → ℤ
+distance address pc = pos pc -ℤ pos address
+
+-- a whole number as a natural one, 0 where it is negative
+unfoldable pub natural : ℤ → ℕ
+natural (pos k) = k
+natural (negsuc k) = 0
+
+-- how the code holds a start: 2 ^ 32 above its value
+unfoldable pub raised : ℤ → ℕ
+raised z = natural (z +ℤ pos (2 ^ 32))
+
+-- how the code holds d: raised like a start, and kept to at most 2 ^ 34, which is above every start and every end
+unfoldable pub near : ℤ → ℕ
+near d = min (raised d) (2 ^ 34)
+
+-- the range of a start: held above 0, and with room for any size below 2 ^ 34
+pub record Held (start : ℤ) : Type 0 where
+  pub above : 0 < raised start
+  pub room : raised start ≤ 3 * 2 ^ 32
