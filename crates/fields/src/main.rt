@@ -125,7 +125,7 @@ fn load(path: &[u8], buffer: &mut [u8]) -> usize
 fn main() {
     let mut section = io::buffer();
     let mut questions = io::buffer();
-    say(b"what                    place, width, order and sign, number\n");
+    say(b"what                    place, code of the width, order and sign; number\n");
     let n = load(b"S.sframe", &mut section);
     let m = load(b"questions.txt", &mut questions);
     answer_all(&section[..n], &questions[..m]);

@@ -1,5 +1,6 @@
 pub mod AddressLaws
 pub mod DiffLaws
+mod Examples
 pub mod FieldLaws
 pub mod HeldLaws
 pub mod SignedLaws
