@@ -22,11 +22,11 @@ number Big bytes = digits (reverse bytes)
 
 -- the unsigned number of `width` bytes that begins at place `at`
 unfoldable pub fieldOf : List ℕ → ℕ → ℕ → Order → ℕ
-fieldOf s at width order = number order (take width (drop at s))
+fieldOf bytes at width order = number order (take width (drop at bytes))
 
 -- one byte is the same number in either order
 unfoldable pub byteOf : List ℕ → ℕ → ℕ
-byteOf s at = fieldOf s at 1 Little
+byteOf bytes at = fieldOf bytes at 1 Little
 
 -- the place of digit k, the least being 0, of the number of `width` bytes that begins at `at`
 unfoldable pub digitPlace : Order → ℕ → ℕ → ℕ → ℕ
@@ -35,6 +35,6 @@ digitPlace Big at width k = at + (width - 1 - k)
 
 -- a number by the code of its width, 0, 1, 2, 3 for 1, 2, 4, 8 bytes, where it is wholly inside
 unfoldable pub numberOf : List ℕ → ℕ → ℕ → Order → Number
-numberOf s at code order =
+numberOf bytes at code order =
     elim (leb code 3)
-    [ true ↦ elim (leb (at + 2 ^ code) (length s)) [ true ↦ Is (fieldOf s at (2 ^ code) order) | false ↦ Outside ] | false ↦ NoWidth ]
+    [ true ↦ elim (leb (at + 2 ^ code) (length bytes)) [ true ↦ Is (fieldOf bytes at (2 ^ code) order) | false ↦ Outside ] | false ↦ NoWidth ]

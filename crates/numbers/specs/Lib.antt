@@ -1,4 +1,5 @@
 pub mod Address
 pub mod Field
 pub mod Held
+pub mod Opened
 pub mod Signed

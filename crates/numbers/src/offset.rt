@@ -44,11 +44,11 @@ pub fn offset_of(number: u32, code: usize) -> Offset
 }
 
 // The signed number of 1, 2 or 4 bytes at `at`, by the code of its width.
-pub fn offset_at(s: &[u8], at: usize, code: usize, order: Order) -> Offset
-    requires { ⌜ (code ≤ 2) × (at + 2 ^ code ≤ length (now s)) ⌝ }
-    ensures { λ r. ⌜ r ≡ offsetOf (2 ^ code) (fieldOf (now (s .entry)) at (2 ^ code) order) ⌝ }
+pub fn offset_at(bytes: &[u8], at: usize, code: usize, order: Order) -> Offset
+    requires { ⌜ (code ≤ 2) × (at + 2 ^ code ≤ length (now bytes)) ⌝ }
+    ensures { λ r. ⌜ r ≡ offsetOf (2 ^ code) (fieldOf (now (bytes .entry)) at (2 ^ code) order) ⌝ }
 {
-    offset_of(field_at(s, at, code, order), code)
+    offset_of(field_at(bytes, at, code, order), code)
 }
 
 // The one place where an offset becomes an unsigned number.

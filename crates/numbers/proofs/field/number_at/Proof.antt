@@ -14,7 +14,7 @@ use Rattle.numbers.proofs.field.number_at.Tie as tie
 
 -- past the tests the number is wholly inside
 inside : (c : tie.Else3) → c .before .before .before .before .before .args .at + 2 ^ c .before .before .before .before .before .args .code
-    ≤ length (now (c .before .before .before .before .before .args .s))
+    ≤ length (now (c .before .before .before .before .before .args .bytes))
 inside c = omega arith
 
 returns : tie.Need-returns
