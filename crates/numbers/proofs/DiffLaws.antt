@@ -104,19 +104,3 @@ mag-at (negsuc k) a b bound h p q = omega arith
 
 pub diff-mag : {z : ℤ} {a b : ℕ} (bound : ℕ) → Diff z a b → a < bound → b ≤ bound → mag z < bound
 diff-mag {z} {a} {b} bound h p q = mag-at z a b bound (h .apart) p q
-
--- ---- two tests that agree
-
-leb-by : (a b c d : ℕ) (t : Bool) → leb a b ≡ t → (a ≤ b → c ≤ d) → (b < a → d < c) → t ≡ leb c d
-leb-by a b c d true e to from = sym (le-leb c d (to (leb-true a b e)))
-leb-by a b c d false e to from = sym (lt-leb c d (from (leb-false a b e)))
-
-pub leb-same : (a b c d : ℕ) → (a ≤ b → c ≤ d) → (b < a → d < c) → leb a b ≡ leb c d
-leb-same a b c d to from = leb-by a b c d (leb a b) refl to from
-
-ltb-by : (a b c d : ℕ) (t : Bool) → ltb a b ≡ t → (a < b → c < d) → (b ≤ a → d ≤ c) → t ≡ ltb c d
-ltb-by a b c d true e to from = sym (lt-ltb c d (to (ltb-true a b e)))
-ltb-by a b c d false e to from = sym (le-ltb c d (from (ltb-false a b e)))
-
-pub ltb-same : (a b c d : ℕ) → (a < b → c < d) → (b ≤ a → d ≤ c) → ltb a b ≡ ltb c d
-ltb-same a b c d to from = ltb-by a b c d (ltb a b) refl to from

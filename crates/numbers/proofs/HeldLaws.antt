@@ -1,5 +1,5 @@
 -- A start and a distance compare as whole numbers exactly as the unsigned numbers that hold them do. The layers above cite
--- `near-start`, `near-end`, `start-order` and `offset-in`, and prove no range of their own.
+-- one law for each outcome of a test (`from-start` to `offset-in`), and prove no range of their own.
 -- Assumes nothing.
 use mathlib.Core.Path.{_≡_, refl, sym, _∙_, ap}
 use mathlib.Core.Bool.{Bool, true, false}
@@ -8,9 +8,10 @@ use native.Mathlib.Omega.{arith}
 use lib.Dec.{ltb, leb}
 use lib.IntN.{ℤ, pos, negsuc, _+ℤ_, _-ℤ_, negℤ}
 use lib.Signed.{ltZ, leZ}
-use Rattle.numbers.specs.Held.{startAt, distance, natural, raised, near, Held}
+use borrow.Author.Tests.{le-leb, lt-leb, le-ltb, lt-ltb}
+use Rattle.numbers.specs.Held.{startAt, distance, natural, raised, near, Held, Near}
 use Rattle.numbers.specs.Signed.{signedOf}
-use Rattle.numbers.proofs.DiffLaws.{Apart, Diff, diff-pos, diff-add, diff-neg, diff-same, diff-less, diff-unique, diff-le, diff-lt, leb-same, ltb-same}
+use Rattle.numbers.proofs.DiffLaws.{Apart, Diff, diff-pos, diff-add, diff-neg, diff-same, diff-less, diff-unique, diff-le, diff-lt}
 use Rattle.numbers.proofs.SignedLaws.{signed-low, signed-high}
 
 natural-at : (z : ℤ) (a b : ℕ) → Apart z a b → natural z ≡ a - b
@@ -42,9 +43,9 @@ pub distance-is : (address pc : ℕ) → Diff (distance address pc) pc address
 unfolding distance
 distance-is address pc = diff-less pc address
 
--- a start that is held by a difference within the range
-pub held-by : {z : ℤ} {a b : ℕ} → Diff z a b → b < a + 2 ^ 32 → a + 2 ^ 32 ≤ b + 3 * 2 ^ 32 → Held z
-held-by h p q = record { above = rw (raised-is h) (omega arith); room = rw (raised-is h) (omega arith) }
+-- a number that holds a start, from a difference within the range
+pub held-by : {z : ℤ} {a b h : ℕ} → Diff z a b → h + b ≡ a + 2 ^ 32 → 0 < h → h ≤ 3 * 2 ^ 32 → Held z h
+held-by diff e p q = record { is = rw (raised-is diff) (omega arith); above = p; room = q }
 
 -- ---- comparisons
 
@@ -65,43 +66,60 @@ parts-at (negsuc k) = omega arith
 parts : (z : ℤ) → Diff z (up z) (down z)
 parts z = record { apart = parts-at z }
 
--- "start <= d"
-pub near-start : {start : ℤ} (d : ℤ) → Held start → leZ start d ≡ leb (raised start) (near d)
-near-start {start} d h =
-    let s : raised start ≡ up start + 2 ^ 32 - down start = raised-is (parts start) in
-    let n : near d ≡ min (up d + 2 ^ 32 - down d) (2 ^ 34) = near-is (parts d) in
-    let a : 0 < raised start = h .above in
-    let r : raised start ≤ 3 * 2 ^ 32 = h .room in
-    rw (diff-le (parts start) (parts d))
-    (leb-same (up start + down d) (up d + down start) (raised start) (near d) (λ le. omega arith) (λ lt. omega arith))
+held-parts : {start : ℤ} {h : ℕ} → Held start h → h ≡ up start + 2 ^ 32 - down start
+held-parts {start} held = held .is ∙ raised-is (parts start)
 
--- "d < start + size"
-pub near-end : {start : ℤ} (d : ℤ) (size : ℕ) → Held start → size < 2 ^ 32 → ltZ d (start +ℤ pos size) ≡ ltb (near d) (raised start + size)
-near-end {start} d size h k =
-    let s : raised start ≡ up start + 2 ^ 32 - down start = raised-is (parts start) in
-    let n : near d ≡ min (up d + 2 ^ 32 - down d) (2 ^ 34) = near-is (parts d) in
-    let a : 0 < raised start = h .above in
-    let r : raised start ≤ 3 * 2 ^ 32 = h .room in
-    rw (diff-lt (parts d) (diff-add (parts start) (diff-pos size)))
-    (ltb-same (up d + (down start + 0)) (up start + size + down d) (near d) (raised start + size) (λ lt. omega arith) (λ le. omega arith))
+near-parts : {d : ℤ} {n : ℕ} → Near d n → n ≡ min (up d + 2 ^ 32 - down d) (2 ^ 34)
+near-parts {d} dist = dist .is ∙ near-is (parts d)
 
--- one start below another's end, as rule 14 asks
-pub start-order : {later earlier : ℤ} (size : ℕ) → Held later → Held earlier
-    → ltZ later (earlier +ℤ pos size) ≡ ltb (raised later) (raised earlier + size)
-start-order {later} {earlier} size h i =
-    let s : raised later ≡ up later + 2 ^ 32 - down later = raised-is (parts later) in
-    let t : raised earlier ≡ up earlier + 2 ^ 32 - down earlier = raised-is (parts earlier) in
-    let a : 0 < raised later = h .above in
-    let b : 0 < raised earlier = i .above in
-    rw (diff-lt (parts later) (diff-add (parts earlier) (diff-pos size)))
-    (ltb-same (up later + (down earlier + 0)) (up earlier + size + down later) (raised later) (raised earlier + size) (λ lt. omega arith) (λ le. omega arith))
+-- ---- what one test of the code tells, with h for the start as it is held and n for the distance
+
+-- "start <= d", and not
+pub from-start : {start d : ℤ} {h n : ℕ} → Held start h → Near d n → h ≤ n → leZ start d ≡ true
+from-start {start} {d} held dist le =
+    let s = held-parts held in
+    let m = near-parts dist in
+    diff-le (parts start) (parts d) ∙ le-leb (up start + down d) (up d + down start) (omega arith)
+
+pub before-start : {start d : ℤ} {h n : ℕ} → Held start h → Near d n → n < h → leZ start d ≡ false
+before-start {start} {d} held dist lt =
+    let s = held-parts held in
+    let m = near-parts dist in
+    diff-le (parts start) (parts d) ∙ lt-leb (up start + down d) (up d + down start) (omega arith)
+
+-- "d < start + size", and not
+pub before-end : {start d : ℤ} {h n : ℕ} (size : ℕ) → Held start h → Near d n → size < 2 ^ 32 → n < h + size
+    → ltZ d (start +ℤ pos size) ≡ true
+before-end {start} {d} size held dist k lt =
+    let s = held-parts held in
+    let m = near-parts dist in
+    diff-lt (parts d) (diff-add (parts start) (diff-pos size)) ∙ lt-ltb (up d + (down start + 0)) (up start + size + down d) (omega arith)
+
+pub from-end : {start d : ℤ} {h n : ℕ} (size : ℕ) → Held start h → Near d n → size < 2 ^ 32 → h + size ≤ n
+    → ltZ d (start +ℤ pos size) ≡ false
+from-end {start} {d} size held dist k le =
+    let s = held-parts held in
+    let m = near-parts dist in
+    diff-lt (parts d) (diff-add (parts start) (diff-pos size)) ∙ le-ltb (up d + (down start + 0)) (up start + size + down d) (omega arith)
+
+-- "the effective start is below the previous entry's start plus size", and not
+pub overlaps : {later earlier : ℤ} {h i : ℕ} (size : ℕ) → Held later h → Held earlier i → h < i + size → ltZ later (earlier +ℤ pos size) ≡ true
+overlaps {later} {earlier} size held held′ lt =
+    let s = held-parts held in
+    let m = held-parts held′ in
+    diff-lt (parts later) (diff-add (parts earlier) (diff-pos size))
+    ∙ lt-ltb (up later + (down earlier + 0)) (up earlier + size + down later) (omega arith)
+
+pub follows : {later earlier : ℤ} {h i : ℕ} (size : ℕ) → Held later h → Held earlier i → i + size ≤ h → ltZ later (earlier +ℤ pos size) ≡ false
+follows {later} {earlier} size held held′ le =
+    let s = held-parts held in
+    let m = held-parts held′ in
+    diff-lt (parts later) (diff-add (parts earlier) (diff-pos size))
+    ∙ le-ltb (up later + (down earlier + 0)) (up earlier + size + down later) (omega arith)
 
 -- within a function, d less its start is the difference of what is held
-pub offset-in : {start : ℤ} (d : ℤ) (size : ℕ) → Held start → size < 2 ^ 32 → raised start ≤ near d → near d < raised start + size
-    → d -ℤ start ≡ pos (near d - raised start)
-offset-in {start} d size h k le lt =
-    let s : raised start ≡ up start + 2 ^ 32 - down start = raised-is (parts start) in
-    let n : near d ≡ min (up d + 2 ^ 32 - down d) (2 ^ 34) = near-is (parts d) in
-    let a : 0 < raised start = h .above in
-    let r : raised start ≤ 3 * 2 ^ 32 = h .room in
-    diff-unique (diff-add (parts d) (diff-neg (parts start))) (diff-same _ _ (omega arith) (diff-pos (near d - raised start)))
+pub offset-in : {start d : ℤ} {h n : ℕ} (size : ℕ) → Held start h → Near d n → size < 2 ^ 32 → h ≤ n → n < h + size → d -ℤ start ≡ pos (n - h)
+offset-in {start} {d} {h} {n} size held dist k le lt =
+    let s = held-parts held in
+    let m = near-parts dist in
+    diff-unique (diff-add (parts d) (diff-neg (parts start))) (diff-same _ _ (omega arith) (diff-pos (n - h)))

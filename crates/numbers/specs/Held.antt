@@ -1,5 +1,6 @@
 -- Starts, and the distance d that they are compared with. Both are exact whole numbers here. The code holds each as an
 -- unsigned number 2 ^ 32 above its value, so that none is below 0 and every comparison is one of plain u64.
+use mathlib.Core.Path.{_≡_}
 use Prim.Native.Nat.{ℕ, _≤_, _<_, _*_, _^_, min}
 use lib.IntN.{ℤ, pos, negsuc, _+ℤ_, _-ℤ_}
 use Rattle.numbers.specs.Signed.{signedOf}
@@ -26,7 +27,12 @@ raised z = natural (z +ℤ pos (2 ^ 32))
 unfoldable pub near : ℤ → ℕ
 near d = min (raised d) (2 ^ 34)
 
--- the range of a start: held above 0, and with room for any size below 2 ^ 34
-pub record Held (start : ℤ) : Type 0 where
-  pub above : 0 < raised start
-  pub room : raised start ≤ 3 * 2 ^ 32
+-- h holds a start: it is 2 ^ 32 above it, above 0, and with room for any size below 2 ^ 34
+pub record Held (start : ℤ) (h : ℕ) : Type 0 where
+  pub is : h ≡ raised start
+  pub above : 0 < h
+  pub room : h ≤ 3 * 2 ^ 32
+
+-- n holds the distance d
+pub record Near (d : ℤ) (n : ℕ) : Type 0 where
+  pub is : n ≡ near d

@@ -6,7 +6,7 @@ ghost use Rattle.numbers.specs.Held.{startAt, distance, raised, near, He
 // A start from its field and what it counts from: the field's own position under flag 0x4, else 0.
 pub fn held_start(field: u32, position: u32) -> u64
     ensures { λ r. ⌜ r ≡ raised (startAt field position) ⌝ }
-    ensures range { λ r. ⌜ Held (startAt field position) ⌝ }
+    ensures range { λ r. ⌜ Held (startAt field position) r ⌝ }
 {
     let up = field as u64 + position as u64;
     // A field in its upper half stands for 2^32 less.

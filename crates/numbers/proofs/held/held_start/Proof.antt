@@ -10,12 +10,12 @@ use Rattle.numbers.proofs.held.held_start.Tie as tie
 returns : tie.Need-returns
 returns c =
     let start = start-low (c .before .args .field) (c .before .args .position) (c .if1 .taken) in
-    (rw (raised-is start) (omega arith), held-by start (omega arith) (omega arith))
+    (rw (raised-is start) (omega arith), held-by start (omega arith) (omega arith) (omega arith))
 
 returns-2 : tie.Need-returns-2
 returns-2 c =
     let start = start-high (c .before .args .field) (c .before .args .position) (c .if1 .left) in
-    (rw (raised-is start) (omega arith), held-by start (omega arith) (omega arith))
+    (rw (raised-is start) (omega arith), held-by start (omega arith) (omega arith) (omega arith))
 
 pub held-start-spec : {M : Type 1} → statement M
 held-start-spec = tie.close (tie.spec (λ c. search needs) (λ c. search needs) returns returns-2)
