@@ -1,13 +1,12 @@
 -- A base plus an offset, by the way that the offset goes; and a word by the tests that the code makes.
 -- Assumes nothing.
-use mathlib.Core.Path.{_≡_, refl, sym, _∙_, ap}
-use mathlib.Core.Bool.{Bool, true, false, _&&_}
+use mathlib.Core.Path.{_≡_, sym}
+use mathlib.Core.Bool.{true, false}
 use mathlib.Core.List.{List}
-use Prim.Native.Nat.{ℕ, zero, suc, _+_, _-_, _^_, _≤_, _<_}
+use Prim.Native.Nat.{ℕ, suc, _+_, _-_, _^_, _≤_, _<_}
 use native.Mathlib.Omega.{arith}
-use lib.Dec.{ltb, leb}
 use lib.ListN.{length}
-use lib.IntN.{ℤ, pos, negsuc, _+ℤ_, subℕ}
+use lib.IntN.{ℤ, pos, negsuc}
 use borrow.Author.Tests.{le-ltb, lt-ltb, le-leb, lt-leb}
 use Rattle.numbers.specs.Field.{fieldOf}
 use Rattle.numbers.specs.Signed.{shiftOf}

@@ -4,7 +4,7 @@ use mathlib.Core.Path.{_≡_, refl}
 use mathlib.Core.Bool.{true, false}
 use mathlib.Core.List.{List, [], _∷_}
 use Prim.Native.Nat.{ℕ, _-_, _^_}
-use lib.IntN.{ℤ, pos, negsuc}
+use lib.IntN.{pos, negsuc}
 use Rattle.numbers.specs.Address.{addressOf, windowFits, wordOf}
 use Rattle.numbers.specs.Field.{fieldOf, numberOf}
 use Rattle.numbers.specs.Held.{startAt, distance, near}

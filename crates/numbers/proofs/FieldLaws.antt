@@ -2,12 +2,12 @@
 -- what its digits make, each digit read at its own place.
 -- Assumes nothing.
 use mathlib.Core.Path.{_≡_, refl, sym, _∙_, ap}
-use mathlib.Core.List.{List, [], _∷_, _++_, reverse, reverse-append}
-use Prim.Native.Nat.{ℕ, zero, suc, _+_, _-_, _*_, _^_, _≤_, _<_}
+use mathlib.Core.List.{List, [], _∷_, reverse, reverse-append}
+use Prim.Native.Nat.{ℕ, zero, suc, _+_, _-_, _^_, _≤_, _<_}
 use native.Mathlib.Nat.{add-zero, sub-zero, zero-sub, suc-sub-suc, pow-succ'}
 use native.Mathlib.Omega.{arith}
 use lib.Dec.{lit<}
-use lib.ListN.{length, take, drop, getD, length-take, length-drop, length-reverse}
+use lib.ListN.{length, take, drop, getD, length-take, length-drop}
 use lib.Seq.{take-suc, drop-cons, getD-drop, getD-take, take-nil, take-take, drop-drop, ext-getD}
 use borrow.Author.Tests.{le-leb, lt-leb}
 use Rattle.numbers.specs.Field.{digits, number, fieldOf, byteOf, digitPlace, numberOf}

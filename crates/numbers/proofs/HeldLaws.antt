@@ -1,16 +1,14 @@
 -- A start and a distance compare as whole numbers exactly as the unsigned numbers that hold them do. The layers above cite
 -- one law for each outcome of a test (`from-start` to `offset-in`), and prove no range of their own.
 -- Assumes nothing.
-use mathlib.Core.Path.{_≡_, refl, sym, _∙_, ap}
-use mathlib.Core.Bool.{Bool, true, false}
-use Prim.Native.Nat.{ℕ, zero, suc, _+_, _-_, _*_, _^_, _≤_, _<_, min}
+use mathlib.Core.Path.{_≡_, _∙_, ap}
+use mathlib.Core.Bool.{true, false}
+use Prim.Native.Nat.{ℕ, suc, _+_, _-_, _*_, _^_, _≤_, _<_, min}
 use native.Mathlib.Omega.{arith}
-use lib.Dec.{ltb, leb}
-use lib.IntN.{ℤ, pos, negsuc, _+ℤ_, _-ℤ_, negℤ}
+use lib.IntN.{ℤ, pos, negsuc, _+ℤ_, _-ℤ_}
 use lib.Signed.{ltZ, leZ}
 use borrow.Author.Tests.{le-leb, lt-leb, le-ltb, lt-ltb}
 use Rattle.numbers.specs.Held.{startAt, distance, natural, raised, near, Held, Near}
-use Rattle.numbers.specs.Signed.{signedOf}
 use Rattle.numbers.proofs.DiffLaws.{Apart, Diff, diff-pos, diff-add, diff-neg, diff-same, diff-less, diff-unique, diff-le, diff-lt}
 use Rattle.numbers.proofs.SignedLaws.{signed-low, signed-high}
 

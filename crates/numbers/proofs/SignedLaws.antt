@@ -1,18 +1,16 @@
 -- The laws of signed numbers that the code needs where it computes on an i64: turning a negative one over, taking one
 -- apart, and the difference that a signed field is. Assumes nothing.
-use mathlib.Core.Path.{_≡_, refl, sym, _∙_, ap}
-use mathlib.Core.Bool.{Bool, true, false}
-use Prim.Native.Nat.{ℕ, zero, suc, _+_, _-_, _*_, _^_, _/_, _≤_, _<_}
+use mathlib.Core.Path.{_≡_, refl, sym, ap}
+use mathlib.Core.Bool.{true, false}
+use Prim.Native.Nat.{ℕ, suc, _-_, _^_, _/_, _≤_, _<_}
 use native.Mathlib.Omega.{arith}
-use lib.Dec.{ltb, leb}
-use lib.IntN.{ℤ, pos, negsuc, _+ℤ_, _-ℤ_, negℤ, subℕ}
-use lib.Signed.{ltZ, leZ, mag}
+use lib.IntN.{ℤ, pos, negsuc, _-ℤ_}
+use lib.Signed.{ltZ}
 use mir.Syntax.{w64}
 use mir.Val.{SFits, toZ, ofZ}
 use mir.Facts.{toZ-ofZ}
 use borrow.Author.Tests.{ltb-true, le-ltb, lt-ltb}
 use Rattle.numbers.specs.Signed.{signedOf, offsetOf}
-use Rattle.numbers.specs.declared.offset.Offset.{Offset}
 use Rattle.numbers.proofs.DiffLaws.{diff-less, diff-mag}
 
 -- a negative number, and what -1 less it is, as it is computed and as it is read back

@@ -1,11 +1,8 @@
 -- Signed fields and offsets, over exact whole numbers. Document 01: "Reading offset byte f0 as 240" is a slip; it is -16.
-use Prim.Native.Nat.{ℕ, suc, _+_, _^_, _/_}
-use mathlib.Core.Bool.{Bool, true, false}
-use mathlib.Core.List.{List}
+use Prim.Native.Nat.{ℕ, _+_, _^_, _/_}
+use mathlib.Core.Bool.{true, false}
 use lib.Dec.{ltb}
 use lib.IntN.{ℤ, pos, negsuc, _-ℤ_}
-use Rattle.numbers.specs.Field.{fieldOf}
-use Rattle.numbers.specs.declared.field.Order.{Order}
 use Rattle.numbers.specs.declared.offset.Offset.{Offset}
 use Rattle.numbers.specs.declared.offset.Shift.{Shift}
 use Rattle.numbers.specs.declared.offset.Shift.the-variants.{Up, Down}

@@ -3,15 +3,22 @@
 ghost use mathlib.Core.Path.{_≡_};
 ghost use Rattle.numbers.specs.Held.{startAt, distance, raised, near, Held};
 
+// How far above its value a start is held: 2^32.
+const LIFT: u64 = 0x1_0000_0000;
+// At or above every start and every end, as they are held: 2^34.
+const FAR: u64 = 0x4_0000_0000;
+// The least field of 4 bytes that stands for a negative number: 2^31.
+const NEGATIVE: u32 = 0x8000_0000;
+
 // A start from its field and what it counts from: the field's own position under flag 0x4, else 0.
 pub fn held_start(field: u32, position: u32) -> u64
     ensures { λ r. ⌜ r ≡ raised (startAt field position) ⌝ }
     ensures range { λ r. ⌜ Held (startAt field position) r ⌝ }
 {
     let up = field as u64 + position as u64;
-    // A field in its upper half stands for 2^32 less.
-    if field < 2147483648 {
-        return up + 4294967296;
+    // A negative field stands for 2^32 less than its bits say, which is just the lift.
+    if field < NEGATIVE {
+        return up + LIFT;
     }
     up
 }
@@ -22,14 +29,14 @@ pub fn near_of(address: u64, pc: u64) -> u64
 {
     if address <= pc {
         let up = pc - address;
-        if 12884901888 <= up {
-            return 17179869184;
+        if FAR - LIFT <= up {
+            return FAR;
         }
-        return up + 4294967296;
+        return up + LIFT;
     }
     let down = address - pc;
-    if 4294967296 <= down {
+    if LIFT <= down {
         return 0;
     }
-    4294967296 - down
+    LIFT - down
 }

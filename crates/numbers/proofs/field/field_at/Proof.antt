@@ -1,6 +1,6 @@
 -- `field::field_at` reads 1, 2 or 4 bytes by the code, and 2 to that code is the width.
 -- Assumes nothing.
-use mathlib.Core.Path.{_≡_, _∙_, sym}
+use mathlib.Core.Path.{_≡_, _∙_}
 use borrow.Author.Needs.{needs}
 use native.Mathlib.Omega.{arith}
 use Rattle.numbers.proofs.FieldLaws.{byte-in}

@@ -1,7 +1,6 @@
 -- `field::u8_at` reads the one digit of a field of one byte.
 -- Assumes nothing.
 use borrow.Author.Needs.{needs}
-use native.Mathlib.Omega.{arith}
 use Rattle.numbers.proofs.FieldLaws.{byte-is}
 use Rattle.numbers.proofs.field.u8_at.Statement.{statement}
 use Rattle.numbers.proofs.field.u8_at.Tie as tie

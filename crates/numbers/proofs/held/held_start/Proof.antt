@@ -1,6 +1,5 @@
 -- `held::held_start` is right by the half that the field lies in, and so is its range.
 -- Assumes nothing.
-use mathlib.Core.Path.{_∙_, sym}
 use borrow.Author.Needs.{needs}
 use native.Mathlib.Omega.{arith}
 use Rattle.numbers.proofs.HeldLaws.{raised-is, start-low, start-high, held-by}

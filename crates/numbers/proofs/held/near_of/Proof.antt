@@ -21,4 +21,4 @@ returns-4 c = rw (near-is (distance-is (c .before .before .args .address) (c .be
 pub near-of-spec : {M : Type 1} → statement M
 near-of-spec =
     tie.close
-    (tie.spec returns (λ c. search needs) returns-2 (λ c. search needs) returns-3 (λ c. search needs) returns-4)
+    (tie.spec (λ c. search needs) returns (λ c. search needs) returns-2 (λ c. search needs) returns-3 (λ c. search needs) returns-4)
