@@ -10,7 +10,7 @@ use lib.Dec.{lit<}
 use lib.ListN.{length, take, drop, getD, length-take, length-drop}
 use lib.Seq.{take-suc, drop-cons, getD-drop, getD-take, take-nil, take-take, drop-drop, ext-getD}
 use borrow.Author.Tests.{le-leb, lt-leb}
-use Rattle.numbers.specs.Field.{digits, number, fieldOf, byteOf, digitPlace, numberOf}
+use Rattle.numbers.specs.Field.{digits, numberIn, fieldOf, byteOf, digitPlace, numberOf}
 use Rattle.numbers.specs.declared.field.Number.the-variants.{Is, Outside, NoWidth}
 use Rattle.numbers.specs.declared.field.Order.{Order}
 use Rattle.numbers.specs.declared.field.Order.the-variants.{Little, Big}
@@ -39,7 +39,7 @@ backward bytes at width (suc n) k h e =
 -- a field is what its digits make
 pub by-digits : (bytes : List ℕ) (at width : ℕ) (order : Order) → at + width ≤ length bytes
     → fieldOf bytes at width order ≡ digits (valuesOf (λ k. getD bytes (digitPlace order at width k) 0) width 0)
-unfolding fieldOf number digitPlace
+unfolding fieldOf numberIn digitPlace
 by-digits bytes at width Little h = ap digits (rw add-zero at (forward bytes at width 0 (omega arith)))
 by-digits bytes at width Big h = ap digits (backward bytes at width width 0 h (omega arith))
 
@@ -102,7 +102,7 @@ field-below bytes small at width order h =
 pub field-part : (bytes : List ℕ) (from n at width : ℕ) (order : Order) → at + width ≤ n
     → fieldOf (take n (drop from bytes)) at width order ≡ fieldOf bytes (from + at) width order
 unfolding fieldOf
-field-part bytes from n at width order h = ap (number order) (part-of bytes from n at width h)
+field-part bytes from n at width order h = ap (numberIn order) (part-of bytes from n at width h)
 
 -- two lists that agree at the places of a field have the same field there
 pub field-agrees : (bytes other : List ℕ) (at width : ℕ) (order : Order) → at + width ≤ length bytes → at + width ≤ length other
@@ -111,7 +111,7 @@ unfolding fieldOf
 field-agrees bytes other at width order h i same =
     let long : length (take width (drop at bytes)) ≡ width = part-length bytes at width h in
     let long′ : length (take width (drop at other)) ≡ width = part-length other at width i in
-    ap (number order) (ext-getD 0 _ _ (long ∙ sym long′) (λ k lt. element k (omega arith)))
+    ap (numberIn order) (ext-getD 0 _ _ (long ∙ sym long′) (λ k lt. element k (omega arith)))
   where
     element : (k : ℕ) → k < width → getD (take width (drop at bytes)) k 0 ≡ getD (take width (drop at other)) k 0
     element k lt = simp (getD-take, getD-drop) (same (at + k) (omega arith) (omega arith))

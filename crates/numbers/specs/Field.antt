@@ -16,13 +16,13 @@ digits [] = 0
 digits (byte ∷ bytes) = byte + 256 * digits bytes
 
 -- the number that bytes make in an order: little has the least digit first, big has it last
-unfoldable pub number : Order → List ℕ → ℕ
-number Little bytes = digits bytes
-number Big bytes = digits (reverse bytes)
+unfoldable pub numberIn : Order → List ℕ → ℕ
+numberIn Little bytes = digits bytes
+numberIn Big bytes = digits (reverse bytes)
 
 -- the unsigned number of `width` bytes that begins at place `at`
 unfoldable pub fieldOf : List ℕ → ℕ → ℕ → Order → ℕ
-fieldOf bytes at width order = number order (take width (drop at bytes))
+fieldOf bytes at width order = numberIn order (take width (drop at bytes))
 
 -- one byte is the same number in either order
 unfoldable pub byteOf : List ℕ → ℕ → ℕ
