@@ -1,7 +1,7 @@
 -- A start and a distance compare as whole numbers exactly as the unsigned numbers that hold them do. The layers above cite
 -- one law for each outcome of a test (`from-start` to `offset-in`), and prove no range of their own.
 -- Assumes nothing.
-use mathlib.Core.Path.{_≡_, _∙_, ap}
+use mathlib.Core.Path.{_≡_, sym, _∙_, ap}
 use mathlib.Core.Bool.{true, false}
 use Prim.Native.Nat.{ℕ, suc, _+_, _-_, _*_, _^_, _≤_, _<_, min}
 use native.Mathlib.Omega.{arith}
@@ -37,13 +37,17 @@ pub start-high : (field position : ℕ) → 2147483648 ≤ field → Diff (start
 unfolding startAt
 start-high field position h = rw (signed-high 4 field h) (diff-add (diff-less field (2 ^ 32)) (diff-pos position))
 
-pub distance-is : (address pc : ℕ) → Diff (distance address pc) pc address
+distance-is : (address pc : ℕ) → Diff (distance address pc) pc address
 unfolding distance
 distance-is address pc = diff-less pc address
 
 -- a number that holds a start, from a difference within the range
 pub held-by : {z : ℤ} {a b h : ℕ} → Diff z a b → h + b ≡ a + 2 ^ 32 → 0 < h → h ≤ 3 * 2 ^ 32 → Held z h
 held-by diff e p q = record { is = rw (raised-is diff) (omega arith); above = p; room = q }
+
+-- a number that holds the distance of a PC
+pub near-by : (address pc : ℕ) {n : ℕ} → n ≡ min (pc + 2 ^ 32 - address) (2 ^ 34) → n ≡ near (distance address pc)
+near-by address pc e = e ∙ sym (near-is (distance-is address pc))
 
 -- ---- comparisons
 

@@ -17,7 +17,7 @@ unfoldable pub inMemory : ℤ → Address
 inMemory (pos n) = elim (ltb n (2 ^ 64)) [ true ↦ address.At n | false ↦ address.Outside ]
 inMemory (negsuc n) = address.Outside
 
--- "CFA is base plus first offset .. outside 0 to 2^64 - 1": a base plus an offset
+-- "CFA is base plus first offset. 25 when outside 0 to 2^64 - 1.": a base plus an offset
 unfoldable pub addressOf : ℕ → ℤ → Address
 addressOf base by = inMemory (pos base +ℤ by)
 

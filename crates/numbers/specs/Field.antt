@@ -28,7 +28,7 @@ fieldOf bytes at width order = numberIn order (take width (drop at bytes))
 unfoldable pub byteOf : List ℕ → ℕ → ℕ
 byteOf bytes at = fieldOf bytes at 1 Little
 
--- the place of digit k, the least being 0, of the number of `width` bytes that begins at `at`
+-- the place of digit k, the least being 0, of the number of `width` bytes that begins at `at`: for the readers' own use
 unfoldable pub digitPlace : Order → ℕ → ℕ → ℕ → ℕ
 digitPlace Little at width k = at + k
 digitPlace Big at width k = at + (width - 1 - k)

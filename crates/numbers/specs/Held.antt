@@ -5,8 +5,8 @@ use Prim.Native.Nat.{ℕ, _≤_, _<_, _*_, _^_, min}
 use lib.IntN.{ℤ, pos, negsuc, _+ℤ_, _-ℤ_}
 use Rattle.numbers.specs.Signed.{signedOf}
 
--- "The start field, plus the field's own position in the section when flag 0x4 is set. It is a signed whole number and never
--- wraps." (The position is 0 where the flag is not set.)
+-- The effective start is "the start field, plus the field's own position in the section when flag 0x4 is set. It is a signed
+-- whole number and never wraps." (The position is 0 where the flag is not set.)
 unfoldable pub startAt : ℕ → ℕ → ℤ
 startAt field position = signedOf 4 field +ℤ pos position
 

@@ -108,7 +108,7 @@ pub fn u64_at(bytes: &[u8], at: usize, order: Order) -> u64
     }
 }
 
-// The width that a code names: 1, 2, 4, 8 for 0, 1, 2, 3. By a shift, since a choice by branches is slower.
+// The width that a code names: 1, 2, 4, 8 for 0, 1, 2, 3. By a shift, with no branch.
 pub fn width_of(code: usize) -> usize
     requires { ⌜ code ≤ 3 ⌝ }
     ensures { λ r. ⌜ r ≡ 2 ^ code ⌝ }

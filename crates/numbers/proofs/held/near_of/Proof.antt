@@ -2,21 +2,21 @@
 -- Assumes nothing.
 use borrow.Author.Needs.{needs}
 use native.Mathlib.Omega.{arith}
-use Rattle.numbers.proofs.HeldLaws.{near-is, distance-is}
+use Rattle.numbers.proofs.HeldLaws.{near-by}
 use Rattle.numbers.proofs.held.near_of.Statement.{statement}
 use Rattle.numbers.proofs.held.near_of.Tie as tie
 
 returns : tie.Need-returns
-returns c = rw (near-is (distance-is (c .before .before .args .address) (c .before .before .args .pc))) (omega arith)
+returns c = near-by _ _ (omega arith)
 
 returns-2 : tie.Need-returns-2
-returns-2 c = rw (near-is (distance-is (c .before .before .args .address) (c .before .before .args .pc))) (omega arith)
+returns-2 c = near-by _ _ (omega arith)
 
 returns-3 : tie.Need-returns-3
-returns-3 c = rw (near-is (distance-is (c .before .before .args .address) (c .before .before .args .pc))) (omega arith)
+returns-3 c = near-by _ _ (omega arith)
 
 returns-4 : tie.Need-returns-4
-returns-4 c = rw (near-is (distance-is (c .before .before .args .address) (c .before .before .args .pc))) (omega arith)
+returns-4 c = near-by _ _ (omega arith)
 
 pub near-of-spec : {M : Type 1} → statement M
 near-of-spec =
