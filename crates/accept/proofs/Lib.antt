@@ -1,0 +1,12 @@
+pub mod AcceptedLaws
+pub mod Decides
+pub mod Exactly
+mod Examples
+pub mod FaultLaws
+pub mod InOrder
+pub mod RowLaws
+pub mod RuleLaws
+pub mod SameLaws
+pub mod TableLaws
+pub mod TurnLaws
+pub mod WalkLaws

@@ -1,0 +1,67 @@
+-- The walk over the rows of a function, turn by turn: where the next row stands, the least start that it may have, and that
+-- what is left to try decides as the whole does.
+-- Assumes nothing.
+use mathlib.Core.Path.{_≡_, refl, sym, _∙_, ap}
+use mathlib.Core.List.{List}
+use Prim.Native.Nat.{ℕ, zero, suc, _+_, _-_, _≤_, _<_}
+use native.Mathlib.Nat.{sub-zero}
+use native.Mathlib.Numerals.{add-one}
+use native.Mathlib.Omega.{arith}
+use lib.ListN.{length}
+use Rattle.section.specs.Row.{rowLength, rowPlace, rowStart}
+use Rattle.section.specs.declared.shape.Shape.{Shape}
+use Rattle.accept.specs.Checks.{faultOf, firstOf, rowFault, lowOf, rowFaultIn, rowsFault}
+use Rattle.accept.specs.declared.verdict.Fault.the-variants.{Sound, Breaks}
+use Rattle.accept.proofs.FaultLaws.{first-next, first-stop}
+use Rattle.accept.proofs.RowLaws.{RowSound, row-sound}
+
+-- k rows are behind; the next stands at `at` and may start at `low`
+pub record Walked (area : List ℕ) (shape : Shape) (code first count at low k : ℕ) : Type 0 where
+  pub place : at ≡ rowPlace area code first k
+  pub least : low ≡ lowOf area (shape .order) code first k
+  pub inside : at ≤ length area
+  pub within : k ≤ count
+  pub rest : firstOf (rowFaultIn area shape code first) (count - k) k ≡ firstOf (rowFaultIn area shape code first) count 0
+
+pub walk-begins : (area : List ℕ) (shape : Shape) (code first count : ℕ) → first ≤ length area → Walked area shape code first count first 0 0
+unfolding rowPlace lowOf
+walk-begins area shape code first count le = record { place = refl; least = refl; inside = le; within = omega arith; rest = rw sub-zero }
+
+-- the fault of the row that is next, by its number
+here : {area : List ℕ} {shape : Shape} {code first count at low k : ℕ} → Walked area shape code first count at low k
+    → rowFaultIn area shape code first k ≡ rowFault area shape code at low
+unfolding rowFaultIn
+here w = rw (w .place, w .least)
+
+-- what is left, with the next row first
+next-first : {area : List ℕ} {shape : Shape} {code first count at low k : ℕ} → Walked area shape code first count at low k → k < count
+    → firstOf (rowFaultIn area shape code first) (suc (count - suc k)) k ≡ firstOf (rowFaultIn area shape code first) count 0
+next-first {count = count} {k = k} w lt =
+    let left : suc (count - suc k) ≡ count - k = omega arith in
+    rw left (w .rest)
+
+pub walk-goes-on : {area : List ℕ} {shape : Shape} {code first count at low k : ℕ} → Walked area shape code first count at low k → k < count
+    → rowFault area shape code at low ≡ Sound
+    → Walked area shape code first count (at + rowLength area code at) (rowStart area (shape .order) code at + 1) (k + 1)
+unfolding rowPlace lowOf
+walk-goes-on {area} {shape} {code} {first} {count} {at} {low} {k} w lt sound =
+    rw (add-one k, add-one (rowStart area (shape .order) code at))
+    (record {
+      place = rw (w .place);
+      least = rw (w .place);
+      inside = row-sound area shape code at low .0 sound .whole;
+      within = lt;
+      rest = sym (first-next _ (count - suc k) k (here w ∙ sound)) ∙ next-first w lt;
+    })
+
+pub walk-stops : {area : List ℕ} {shape : Shape} {code first count at low k number : ℕ} → Walked area shape code first count at low k → k < count
+    → rowFault area shape code at low ≡ Breaks number → Breaks number ≡ rowsFault area shape code first count
+unfolding rowsFault faultOf
+walk-stops {count = count} {k = k} w lt breaks = ap faultOf (sym (first-stop _ (count - suc k) k (here w ∙ breaks)) ∙ next-first w lt)
+
+pub walk-ends : {area : List ℕ} {shape : Shape} {code first count at low k : ℕ} → Walked area shape code first count at low k → count ≤ k
+    → Sound ≡ rowsFault area shape code first count
+unfolding rowsFault faultOf firstOf
+walk-ends {count = count} {k = k} w le =
+    let none : count - k ≡ 0 = omega arith in
+    ap faultOf (rw none at (w .rest))

@@ -1,0 +1,80 @@
+-- `row_check::check_rows` walks the rows: each turn tries the next one, and what is left decides as the whole does.
+-- Assumes nothing.
+use native.Mathlib.Omega.{arith}
+use borrow.Author.Needs.{needs}
+use mathlib.Core.Path.{_≡_, refl, sym, _∙_}
+use Prim.Native.Nat.{_+_, _-_, _^_, _≤_}
+use denote.Ref.{now}
+use lib.ListN.{length}
+use Rattle.section.specs.Row.{rowStart}
+use Rattle.accept.specs.Checks.{rowFault}
+use Rattle.accept.specs.declared.verdict.Fault.the-variants.{Sound}
+use Rattle.accept.proofs.RowLaws.{RowSound, row-sound}
+use Rattle.accept.proofs.WalkLaws.{Walked, walk-begins, walk-goes-on, walk-stops, walk-ends}
+use Rattle.accept.proofs.row_check.check_rows.Statement.{statement}
+use Rattle.accept.proofs.row_check.check_rows.Tie as tie
+
+abbrev Inv-loop : tie.InvT-loop
+Inv-loop area shape code first count order at₀ low₀ k₀ at low k = Walked area shape code first count at low k × (order ≡ shape .order)
+
+abbrev μ-loop : tie.MeasureT-loop
+μ-loop area shape code first count order at₀ low₀ k₀ at low k = count - k
+
+loop-holds : tie.Need-loop-holds Inv-loop μ-loop
+loop-holds c = (walk-begins _ _ _ _ _ (c .before .pre .1), refl)
+
+returns : tie.Need-returns Inv-loop μ-loop
+returns c =
+    let tried = c .before .before .before in
+    walk-stops (tried .before .before .loop .inv .0) (tried .before .loop-test .taken) (sym (tried .check-row .ensures) ∙ c .before .number .given .1)
+
+-- the next row is sound
+sound : (c : tie.After-enum-told Inv-loop μ-loop)
+    → rowFault (now (c .before .before .before .before .before .before .args .area)) (c .before .before .before .before .before .before .args .shape)
+    (c .before .before .before .before .before .before .args .code) (c .before .before .before .before .loop .at) (c .before .before .before .before .loop .low)
+    ≡ Sound
+sound c = sym (c .before .before .check-row .ensures) ∙ c .enum-told .given .1
+
+field-at-requires : tie.Need-field-at-requires Inv-loop μ-loop
+field-at-requires c κs =
+    let start = c .before .before .before .before .before .before in
+    (start .pre .0, omega (arith, row-sound _ _ _ _ _ .0 (sound c) .fixed))
+
+row-length-requires : tie.Need-row-length-requires Inv-loop μ-loop
+row-length-requires c κs = (c .before .before .before .before .before .before .before .pre .0, row-sound _ _ _ _ _ .0 (sound (c .before)) .fixed)
+
+add-at : tie.Need-add-at Inv-loop μ-loop
+add-at c = rw (c .row-length .ensures) (omega (arith, row-sound _ _ _ _ _ .0 (sound (c .before .before)) .whole))
+
+loop-again : tie.Need-loop-again Inv-loop μ-loop
+unfolding rowStart
+loop-again c =
+    let loop = c .before .before .before .before .before .before in (
+      rw (c .row-length .ensures, c .before .field-at .ensures, loop .loop .inv .1)
+          (walk-goes-on (loop .loop .inv .0) (c .before .before .before .before .before .loop-test .taken) (sound (c .before .before))),
+      loop .loop .inv .1,
+    )
+
+returns-2 : tie.Need-returns-2 Inv-loop μ-loop
+returns-2 c = walk-ends (c .before .loop .inv .0) (c .loop-test .left)
+
+pub check-rows-spec : {M : Type 1} → statement M
+check-rows-spec =
+    tie.close
+    (tie.spec
+    Inv-loop
+    μ-loop
+    loop-holds
+    (λ c κs. search needs)
+    (λ c. search needs)
+    returns
+    (λ c. search needs)
+    field-at-requires
+    (λ c. search needs)
+    (λ c. search needs)
+    row-length-requires
+    add-at
+    (λ c. search needs)
+    (λ c. search needs)
+    loop-again
+    returns-2)

@@ -1,0 +1,5 @@
+pub mod Checks
+pub mod Given
+pub mod Inner
+pub mod Opened
+pub mod Rules

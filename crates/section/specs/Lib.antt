@@ -1,0 +1,6 @@
+pub mod Entry
+pub mod Header
+pub mod Meaning
+pub mod Opened
+pub mod Row
+pub mod Shape

@@ -1,0 +1,118 @@
+//! Sections too large to be stored as cases: those at the limit of 16,777,216 bytes, the benchmark's, and one whose
+//! row counts add up only modulo 2^32.
+#![forbid(unsafe_code)]
+
+use crate::cases::Case;
+use crate::maker::{FirstRow, Function, Machine, Row, Section, SORTED};
+use crate::reader::Verdict;
+
+const LIMIT: usize = 16_777_216;
+
+/// The last entry of a section of about 16,777,216 bytes, as `of_length` fills it.
+const LAST: u64 = 838_857;
+
+type Edit = fn(&mut Section);
+
+const AT_THE_LIMIT: [(&str, usize, Edit, Verdict); 8] = [
+    ("ok_most_bytes", LIMIT, |_| (), Verdict::Accepted),
+    ("2_one_byte_more", LIMIT + 1, |_| (), refused(2, 0)),
+    ("2_one_byte_more_and_3", LIMIT + 1, |s| s.magic = [0, 0], refused(2, 0)),
+    ("3_most_bytes", LIMIT, |s| s.magic = [0, 0], refused(3, 0)),
+    ("9_last_of_most_bytes", LIMIT, |s| last(s).high_bits = 1, refused(9, LAST)),
+    ("11_last_of_most_bytes", LIMIT, |s| last(s).first_row = FirstRow::PastEnd(1), refused(11, LAST)),
+    ("14_last_of_most_bytes", LIMIT, |s| last(s).start = s.functions[0].start, refused(14, LAST)),
+    ("15_most_bytes", LIMIT, |s| s.claims.rows = Some(0), refused(15, 0)),
+];
+
+const fn refused(number: u64, index: u64) -> Verdict {
+    Verdict::Refused { number, index }
+}
+
+fn last(section: &mut Section) -> &mut Function {
+    section.functions.last_mut().expect("the section has functions")
+}
+
+/// The cases at the limit, each made when it is asked for.
+pub fn at_the_limit() -> impl Iterator<Item = Case> {
+    AT_THE_LIMIT.into_iter().map(|(name, length, edit, expected)| {
+        let mut section = of_length(length);
+        edit(&mut section);
+        Case { name: name.to_string(), section: section.bytes(), expected }
+    })
+}
+
+// A sorted section of exactly so many bytes, with as many entries as fit; they share four rows.
+fn of_length(length: usize) -> Section {
+    let row_bytes = rows_of_a_function().iter().map(|row| row.length(1)).sum::<usize>();
+    let count = (length - 28 - row_bytes) / 20;
+    let mut section = many_functions(1);
+    section.functions.extend((1..count).map(|index| {
+        let mut function = Function::new(start_of(index), 32, 0, Vec::new());
+        function.first_row = FirstRow::SharedWith(0);
+        function
+    }));
+    section.tail = vec![0xff; length - 28 - 20 * count - row_bytes];
+    section
+}
+
+/// A sound sorted AMD64 section of adjoining functions with four rows of their own each, 34 bytes a function.
+pub fn many_functions(count: usize) -> Section {
+    let mut section = Section::new(Machine::Amd64);
+    section.flags = SORTED;
+    section.functions =
+        (0..count).map(|index| Function::new(start_of(index), 32, 0, rows_of_a_function().to_vec())).collect();
+    section
+}
+
+fn start_of(index: usize) -> i64 {
+    32 * index as i64 - 0x4000_0000
+}
+
+// What a compiler writes for a function that keeps its frame pointer.
+fn rows_of_a_function() -> [Row; 4] {
+    let mut rows =
+        [(0, &[8][..]), (1, &[16, -16]), (4, &[16, -16]), (31, &[8])].map(|(start, o)| Row::new(start, 0, o));
+    rows[2].sp_base = false;
+    rows
+}
+
+/// 65,536 entries that share 65,536 rows: their counts add up to 2^32, which the header's field shows as 0. Reading it
+/// means reading a row 2^32 times.
+pub fn sum_of_2_32() -> Case {
+    let mut section = Section::new(Machine::Amd64);
+    let rows = (0..65_536).map(|start| Row::new(start, 0, &[8])).collect();
+    section.functions = vec![Function::new(0, 1, 1, rows)];
+    let mut sharing = Function::new(0, 1, 1, Vec::new());
+    sharing.first_row = FirstRow::SharedWith(0);
+    section.functions.resize(65_536, sharing);
+    section.claims.rows = Some(0);
+    Case { name: "15_sum_of_2_32".to_string(), section: section.bytes(), expected: refused(15, 0) }
+}
+
+#[cfg(test)]
+mod tests {
+    use super::*;
+    use crate::reader::check;
+
+    #[test]
+    fn sections_at_the_limit_are_judged_as_stated() {
+        let lengths: Vec<usize> = AT_THE_LIMIT.iter().map(|case| case.1).collect();
+        for (case, length) in at_the_limit().zip(lengths) {
+            assert_eq!(case.section.len(), length, "{}", case.name);
+            assert_eq!(check(&case.section), case.expected, "{}", case.name);
+        }
+    }
+
+    #[test]
+    fn the_section_of_many_functions_is_sound() {
+        let section = many_functions(1000).bytes();
+        assert_eq!((section.len(), check(&section)), (28 + 34 * 1000, Verdict::Accepted));
+    }
+
+    #[test]
+    #[ignore = "reads 2^32 rows: tens of seconds in a release build"]
+    fn a_sum_is_not_taken_modulo_2_32() {
+        let case = sum_of_2_32();
+        assert_eq!(check(&case.section), case.expected);
+    }
+}

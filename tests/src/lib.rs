@@ -1,0 +1,25 @@
+//! The independent reader of `.sframe` sections, what it is tried on, and how the library is held against it.
+//!
+//! `reader` is written from document 01 alone. `maker` builds sections the other way round, from a description to
+//! bytes, and shares nothing with it. `cases` is the fixed list of named sections, `pack` the form in which they are
+//! stored, `large` the sections too big to store, `stream` an endless seeded source of more.
+#![deny(unsafe_code)]
+
+pub mod cases;
+#[cfg(feature = "library")]
+pub mod guarded;
+pub mod large;
+#[cfg(feature = "library")]
+pub mod library;
+pub mod maker;
+pub mod pack;
+pub mod reader;
+pub mod stream;
+
+use std::path::{Path, PathBuf};
+
+/// A path of the repository, whatever the folder that a command was started in.
+pub fn in_repository(path: &str) -> PathBuf {
+    let tests = Path::new(env!("CARGO_MANIFEST_DIR"));
+    tests.parent().expect("this package lies in a folder of the repository").join(path)
+}
