@@ -2,18 +2,33 @@
 -- what is left to try decides as the whole does.
 -- Assumes nothing.
 use mathlib.Core.Path.{_≡_, refl, sym, _∙_, ap}
-use mathlib.Core.List.{List}
+use mathlib.Core.List.{List, []}
 use Prim.Native.Nat.{ℕ, zero, suc, _+_, _-_, _≤_, _<_}
 use native.Mathlib.Nat.{sub-zero}
 use native.Mathlib.Numerals.{add-one}
 use native.Mathlib.Omega.{arith}
-use lib.ListN.{length}
+use lib.ListN.{length, take}
+use borrow.Author.Tests.{lt-ltb, le-ltb}
 use Rattle.section.specs.Row.{rowLength, rowPlace, rowStart}
 use Rattle.section.specs.declared.shape.Shape.{Shape}
-use Rattle.accept.specs.Checks.{faultOf, firstOf, rowFault, lowOf, rowFaultIn, rowsFault}
+use Rattle.accept.specs.Checks.{firstBad, faultOf, firstOf, rowTests, rowFault, lowOf, rowFaultIn, rowsFault}
 use Rattle.accept.specs.declared.verdict.Fault.the-variants.{Sound, Breaks}
 use Rattle.accept.proofs.FaultLaws.{first-next, first-stop}
 use Rattle.accept.proofs.RowLaws.{RowSound, row-sound}
+use Rattle.accept.proofs.TableLaws.{test-true, test-false, no-test, row-by-start}
+
+-- what the first three lines of a row's table leave, by its start
+pub row-low : (area : List ℕ) (shape : Shape) (code at low : ℕ) → firstBad (take 3 (rowTests area shape code at 0)) ≡ Sound
+    → rowStart area (shape .order) code at < low → rowFault area shape code at low ≡ Breaks 13
+row-low area shape code at low parts lt = row-by-start area shape code at low parts ∙ test-true 13 [] (lt-ltb _ _ lt)
+
+pub row-fine : (area : List ℕ) (shape : Shape) (code at low : ℕ) → firstBad (take 3 (rowTests area shape code at 0)) ≡ Sound
+    → low ≤ rowStart area (shape .order) code at → rowFault area shape code at low ≡ Sound
+row-fine area shape code at low parts le = row-by-start area shape code at low parts ∙ test-false 13 [] (le-ltb _ _ le) ∙ no-test
+
+-- and before its start is known, the row is inside
+pub row-inside : (area : List ℕ) (shape : Shape) (code at : ℕ) → firstBad (take 3 (rowTests area shape code at 0)) ≡ Sound → RowSound area shape code at 0
+row-inside area shape code at parts = row-sound area shape code at 0 .0 (row-fine area shape code at 0 parts (omega arith))
 
 -- k rows are behind; the next stands at `at` and may start at `low`
 pub record Walked (area : List ℕ) (shape : Shape) (code first count at low k : ℕ) : Type 0 where

@@ -9,8 +9,8 @@ use section::row::size_of;
 use section::shape::Shape;
 ghost use mathlib.Core.Path.{_≡_};
 ghost use Prim.Native.Nat.{_≤_};
-ghost use lib.ListN.{length};
-ghost use Rattle.accept.specs.Checks.{wrongRowInfo, rowFault, rowsFault};
+ghost use lib.ListN.{length, take};
+ghost use Rattle.accept.specs.Checks.{firstBad, wrongRowInfo, rowTests, rowsFault};
 
 // Whether an info byte has offset size 3 or a count that is not allowed.
 fn wrong_row_info(most: u8, info: u8) -> bool
@@ -28,10 +28,10 @@ fn wrong_row_info(most: u8, info: u8) -> bool
     false
 }
 
-// The row at `at`; `low` is the least start that it may have.
-pub fn check_row(area: &[u8], shape: Shape, code: usize, at: usize, low: u64) -> Fault
+// The row at `at`, but for its start: fixed part inside, info, offsets inside.
+fn check_row(area: &[u8], shape: Shape, code: usize, at: usize) -> Fault
     requires { ⌜ (code ≤ 2) × (at ≤ length (now area)) ⌝ }
-    ensures { λ r. ⌜ r ≡ rowFault (now (area .entry)) shape code at low ⌝ }
+    ensures { λ r. ⌜ r ≡ firstBad (take 3 (rowTests (now (area .entry)) shape code at 0)) ⌝ }
 {
     if area.len() < at + width_of(code) + 1 {
         return Fault::Breaks(11);
@@ -42,14 +42,11 @@ pub fn check_row(area: &[u8], shape: Shape, code: usize, at: usize, low: u64) ->
     if area.len() < at + row_length(area, code, at) {
         return Fault::Breaks(11);
     }
-    let order = shape.order;
-    if (field_at(area, at, code, order) as u64) < low {
-        return Fault::Breaks(13);
-    }
     Fault::Sound
 }
 
-// All rows of a function, the first of which stands at `first`.
+// All rows of a function, the first of which stands at `first`. `low` is the least start that the next row may have. A start
+// is read once, for its own test and for the next row's.
 pub fn check_rows(area: &[u8], shape: Shape, code: usize, first: usize, count: u32) -> Fault
     requires { ⌜ (code ≤ 2) × (first ≤ length (now area)) ⌝ }
     ensures { λ r. ⌜ r ≡ rowsFault (now (area .entry)) shape code first count ⌝ }
@@ -59,13 +56,17 @@ pub fn check_rows(area: &[u8], shape: Shape, code: usize, first: usize, count: u
     let mut low = 0;
     let mut k = 0;
     while k < count {
-        match check_row(area, shape, code, at, low) {
+        match check_row(area, shape, code, at) {
             Fault::Breaks(number) => {
                 return Fault::Breaks(number);
             }
             Fault::Sound => {}
         }
-        low = field_at(area, at, code, order) as u64 + 1;
+        let start = field_at(area, at, code, order) as u64;
+        if start < low {
+            return Fault::Breaks(13);
+        }
+        low = start + 1;
         at = at + row_length(area, code, at);
         k = k + 1;
     }

@@ -1,4 +1,4 @@
--- `row_check::check_row` tries the lines of the table of a row in order.
+-- `row_check::check_row` tries the first three lines of the table of a row in order.
 -- Assumes nothing.
 use native.Mathlib.Omega.{arith}
 use borrow.Author.Needs.{needs}
@@ -8,9 +8,8 @@ use denote.Ref.{now}
 use lib.ListN.{length}
 use lib.Pow.{pow-mono}
 use borrow.Author.Tests.{lt-ltb, le-ltb}
-use Rattle.section.specs.Row.{rowLength, rowStart}
 use Rattle.section.proofs.OffsetLaws.{row-below}
-use Rattle.accept.specs.Checks.{rowTests, rowFault}
+use Rattle.accept.specs.Checks.{rowTests}
 use Rattle.accept.proofs.TableLaws.{test-true, test-false, no-test}
 use Rattle.accept.proofs.row_check.check_row.Statement.{statement}
 use Rattle.accept.proofs.row_check.check_row.Tie as tie
@@ -24,10 +23,11 @@ add-if1-2 c = rw (c .width-of .ensures) (omega (arith, c .before .before .pre .1
 add-if3 : tie.Need-add-if3
 add-if3 c =
     let start = c .before .before .before .before .before .before .before in
-    rw (c .row-length .ensures) (omega (arith, start .pre .1, row-below (now (start .args .area)) (start .args .code) (start .args .at) (start .pre .0)))
+    rw (c .row-length .ensures)
+    (omega (arith, start .pre .1, row-below (now (start .args .area)) (start .args .code) (start .args .at) (start .pre .0)))
 
 returns : tie.Need-returns
-unfolding rowTests rowFault
+unfolding rowTests
 returns c = sym (test-true _ _ (lt-ltb _ _ (rw (c .before .width-of .ensures) at (c .if1 .taken))))
 
 -- the fixed part is inside
@@ -36,14 +36,14 @@ fixed : (c : tie.Else1)
 fixed c = rw (c .before .width-of .ensures) at (c .if1 .left)
 
 returns-2 : tie.Need-returns-2
-unfolding rowTests rowFault
+unfolding rowTests
 returns-2 c =
     let info = c .before .before in
     rw (← (info .info-at .ensures))
     (sym (test-false _ _ (le-ltb _ _ (fixed (info .before))) ∙ test-true _ _ (sym (c .before .wrong-row-info .ensures) ∙ c .if2 .taken)))
 
 returns-3 : tie.Need-returns-3
-unfolding rowTests rowFault
+unfolding rowTests
 returns-3 c =
     let twelve = c .before .before in
     let info = twelve .before .before in
@@ -54,30 +54,15 @@ returns-3 c =
     ∙ test-true _ _ (lt-ltb _ _ (c .if3 .taken))))
 
 returns-4 : tie.Need-returns-4
-unfolding rowTests rowFault rowStart
+unfolding rowTests
 returns-4 c =
-    let inside = c .before .before in
-    let twelve = inside .before .before in
+    let twelve = c .before .before in
     let info = twelve .before .before in
-    rw (← (info .info-at .ensures), ← (inside .before .row-length .ensures), ← (c .before .field-at .ensures))
+    rw (← (info .info-at .ensures), ← (c .before .row-length .ensures))
     (sym
     (test-false _ _ (le-ltb _ _ (fixed (info .before)))
     ∙ test-false _ _ (sym (twelve .before .wrong-row-info .ensures) ∙ twelve .if2 .left)
-    ∙ test-false _ _ (le-ltb _ _ (inside .if3 .left))
-    ∙ test-true _ _ (lt-ltb _ _ (c .if4 .taken))))
-
-returns-5 : tie.Need-returns-5
-unfolding rowTests rowFault rowStart
-returns-5 c =
-    let inside = c .before .before in
-    let twelve = inside .before .before in
-    let info = twelve .before .before in
-    rw (← (info .info-at .ensures), ← (inside .before .row-length .ensures), ← (c .before .field-at .ensures))
-    (sym
-    (test-false _ _ (le-ltb _ _ (fixed (info .before)))
-    ∙ test-false _ _ (sym (twelve .before .wrong-row-info .ensures) ∙ twelve .if2 .left)
-    ∙ test-false _ _ (le-ltb _ _ (inside .if3 .left))
-    ∙ test-false _ _ (le-ltb _ _ (c .if4 .left))
+    ∙ test-false _ _ (le-ltb _ _ (c .if3 .left))
     ∙ no-test))
 
 pub check-row-spec : {M : Type 1} → statement M
@@ -94,7 +79,4 @@ check-row-spec =
     (λ c κs. search needs)
     add-if3
     returns-3
-    (λ c κs. search needs)
-    (λ c. search needs)
-    returns-4
-    returns-5)
+    returns-4)

@@ -5,12 +5,12 @@ use borrow.Author.Needs.{needs}
 use mathlib.Core.Path.{_≡_, refl, sym, _∙_}
 use Prim.Native.Nat.{_+_, _-_, _^_, _≤_}
 use denote.Ref.{now}
-use lib.ListN.{length}
+use lib.ListN.{take}
 use Rattle.section.specs.Row.{rowStart}
-use Rattle.accept.specs.Checks.{rowFault}
+use Rattle.accept.specs.Checks.{firstBad, rowTests}
 use Rattle.accept.specs.declared.verdict.Fault.the-variants.{Sound}
-use Rattle.accept.proofs.RowLaws.{RowSound, row-sound}
-use Rattle.accept.proofs.WalkLaws.{Walked, walk-begins, walk-goes-on, walk-stops, walk-ends}
+use Rattle.accept.proofs.TableLaws.{row-refused}
+use Rattle.accept.proofs.WalkLaws.{Walked, row-low, row-fine, row-inside, walk-begins, walk-goes-on, walk-stops, walk-ends}
 use Rattle.accept.proofs.row_check.check_rows.Statement.{statement}
 use Rattle.accept.proofs.row_check.check_rows.Tie as tie
 
@@ -26,37 +26,59 @@ loop-holds c = (walk-begins _ _ _ _ _ (c .before .pre .1), refl)
 returns : tie.Need-returns Inv-loop μ-loop
 returns c =
     let tried = c .before .before .before in
-    walk-stops (tried .before .before .loop .inv .0) (tried .before .loop-test .taken) (sym (tried .check-row .ensures) ∙ c .before .number .given .1)
+    walk-stops (tried .before .before .loop .inv .0) (tried .before .loop-test .taken)
+    (row-refused _ _ _ _ _ (sym (tried .check-row .ensures) ∙ c .before .number .given .1))
 
--- the next row is sound
-sound : (c : tie.After-enum-told Inv-loop μ-loop)
-    → rowFault (now (c .before .before .before .before .before .before .args .area)) (c .before .before .before .before .before .before .args .shape)
-    (c .before .before .before .before .before .before .args .code) (c .before .before .before .before .loop .at) (c .before .before .before .before .loop .low)
+-- the next row is sound but for its start
+parts : (c : tie.After-enum-told Inv-loop μ-loop)
+    → firstBad
+    (take 3
+    (rowTests (now (c .before .before .before .before .before .before .args .area)) (c .before .before .before .before .before .before .args .shape)
+    (c .before .before .before .before .before .before .args .code) (c .before .before .before .before .loop .at) 0))
     ≡ Sound
-sound c = sym (c .before .before .check-row .ensures) ∙ c .enum-told .given .1
+parts c = sym (c .before .before .check-row .ensures) ∙ c .enum-told .given .1
 
 field-at-requires : tie.Need-field-at-requires Inv-loop μ-loop
 field-at-requires c κs =
     let start = c .before .before .before .before .before .before in
-    (start .pre .0, omega (arith, row-sound _ _ _ _ _ .0 (sound c) .fixed))
+    (start .pre .0, omega (arith, row-inside _ _ _ _ (parts c) .fixed))
 
-row-length-requires : tie.Need-row-length-requires Inv-loop μ-loop
-row-length-requires c κs = (c .before .before .before .before .before .before .before .pre .0, row-sound _ _ _ _ _ .0 (sound (c .before)) .fixed)
-
-add-at : tie.Need-add-at Inv-loop μ-loop
-add-at c = rw (c .row-length .ensures) (omega (arith, row-sound _ _ _ _ _ .0 (sound (c .before .before)) .whole))
-
-loop-again : tie.Need-loop-again Inv-loop μ-loop
+-- what was read is the row's start
+start-is : (c : tie.After-field-at Inv-loop μ-loop)
+    → c .field-at .result
+    ≡ rowStart (now (c .before .before .before .before .before .before .before .args .area))
+    (c .before .before .before .before .before .before .before .args .shape .order) (c .before .before .before .before .before .before .before .args .code)
+    (c .before .before .before .before .before .loop .at)
 unfolding rowStart
-loop-again c =
-    let loop = c .before .before .before .before .before .before in (
-      rw (c .row-length .ensures, c .before .field-at .ensures, loop .loop .inv .1)
-          (walk-goes-on (loop .loop .inv .0) (c .before .before .before .before .before .loop-test .taken) (sound (c .before .before))),
-      loop .loop .inv .1,
-    )
+start-is c = rw (c .before .before .before .before .before .loop .inv .1) at (c .field-at .ensures)
 
 returns-2 : tie.Need-returns-2 Inv-loop μ-loop
-returns-2 c = walk-ends (c .before .loop .inv .0) (c .loop-test .left)
+returns-2 c =
+    let told = c .before .before in
+    let test = told .before .before .before in
+    walk-stops (test .before .loop .inv .0) (test .loop-test .taken) (row-low _ _ _ _ _ (parts told) (rw (start-is (c .before)) at (c .if1 .taken)))
+
+row-length-requires : tie.Need-row-length-requires Inv-loop μ-loop
+row-length-requires c κs =
+    let told = c .before .before in
+    (told .before .before .before .before .before .before .pre .0, row-inside _ _ _ _ (parts told) .fixed)
+
+add-at : tie.Need-add-at Inv-loop μ-loop
+add-at c = rw (c .row-length .ensures) (omega (arith, row-inside _ _ _ _ (parts (c .before .before .before)) .whole))
+
+loop-again : tie.Need-loop-again Inv-loop μ-loop
+loop-again c =
+    let fine = c .before in
+    let told = fine .before .before in
+    let test = told .before .before .before in (
+      rw (c .row-length .ensures, start-is (fine .before))
+          (walk-goes-on (test .before .loop .inv .0) (test .loop-test .taken)
+          (row-fine _ _ _ _ _ (parts told) (rw (start-is (fine .before)) at (fine .if1 .left)))),
+      test .before .loop .inv .1,
+    )
+
+returns-3 : tie.Need-returns-3 Inv-loop μ-loop
+returns-3 c = walk-ends (c .before .loop .inv .0) (c .loop-test .left)
 
 pub check-rows-spec : {M : Type 1} → statement M
 check-rows-spec =
@@ -71,10 +93,11 @@ check-rows-spec =
     (λ c. search needs)
     field-at-requires
     (λ c. search needs)
+    returns-2
     (λ c. search needs)
     row-length-requires
     add-at
     (λ c. search needs)
     (λ c. search needs)
     loop-again
-    returns-2)
+    returns-3)
