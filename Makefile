@@ -1,9 +1,12 @@
 # The commands of the repository; `make` alone lists them.
-.PHONY: help test run fmt
+.PHONY: help test run cases reader bench fmt
 
 help:
-	@echo "make test   the gate: prove every crate, try every must-fail edit, run every program (bash .ci/run)"
+	@echo "make test   the gate: proofs, must-fail edits, programs, and the library against the reader (bash .ci/run)"
 	@echo "make run    prove, build and run what there is to show, and print what it writes"
+	@echo "make cases  make the stored cases and their expected output anew, by the independent reader"
+	@echo "make reader the independent reader by itself: its own tests, and the public dumps"
+	@echo "make bench  time the check of a section, by the static library and by the independent reader"
 	@echo "make fmt    lay every source and proof file out"
 
 test:
@@ -11,8 +14,22 @@ test:
 
 # What rt says is shown only where something failed.
 run:
-	@said=$$(rt check fields 2>&1) || { echo "$$said"; exit 1; }
+	@said=$$(rt check fields replay 2>&1) || { echo "$$said"; exit 1; }
 	@cd crates/fields/data && ../../../target/bin/fields
+	@echo
+	@echo "the verdicts on section S and on the sections of public assemblers"
+	@cd crates/replay/data && ../../../target/bin/replay | sed -n '1,19p'
+
+cases:
+	cd tests && cargo run --quiet --release --offline --locked --bin cases -- write
+
+reader:
+	cd tests && cargo test --release --offline --locked
+
+bench:
+	@said=$$(rt staticlib suntimpani 2>&1) || { echo "$$said"; exit 1; }
+	cd tests && cargo run --quiet --release --offline --locked --features library --bin bench_check
 
 fmt:
 	rt fmt
+	cd tests && cargo fmt

@@ -4,6 +4,7 @@
 use mathlib.Core.Path.{_≡_, refl, _∙_}
 use mathlib.Core.Bool.{Bool, true, false}
 use mathlib.Core.List.{List}
+use mathlib.Core.Logic.{_↔_}
 use Prim.Native.Nat.{ℕ, suc, _+_, _-_, _*_, _≤_, _<_}
 use native.Mathlib.Omega.{arith}
 use lib.IntN.{ℤ, pos, negsuc, _+ℤ_}
@@ -13,13 +14,17 @@ use borrow.Author.Tests.{le-leb}
 use Rattle.numbers.proofs.DiffLaws.{Diff, diff-pos, diff-add, diff-le}
 use Rattle.section.specs.Entry.{typeOf}
 use Rattle.section.specs.Header.{orderOf, marksOf, sizesOf, layoutFrom, layoutOf}
-use Rattle.section.specs.Meaning.{areaOf, shapeOf, entryIn}
+use Rattle.section.specs.Meaning.{areaOf, shapeOf, entryIn, rowAt, functionIn}
 use Rattle.section.specs.Row.{Readable}
+use Rattle.section.specs.Same.{AllowedRows, SameFunction}
 use Rattle.section.specs.Shape.{knownAbi}
-use Rattle.accept.specs.Checks.{entryFault, rowsBelow}
-use Rattle.accept.specs.Rules.{functionCount, rowCount, rowAt, rowStartAt, functionStart, functionEnd, HeaderObeys, Obeys}
+use Rattle.section.proofs.SameLaws.{function-same}
+use Rattle.accept.specs.Checks.{entryFault, rowsBelow, verdict}
+use Rattle.accept.specs.Rules.{functionCount, rowCount, rowInfoAt, rowStartAt, functionStart, functionEnd, HeaderObeys, Obeys}
+use Rattle.accept.specs.Reliable.{Reliable}
 use Rattle.accept.specs.declared.verdict.Fault.the-variants.{Sound}
-use Rattle.accept.proofs.Exactly.{entry-exactly-when}
+use Rattle.accept.specs.declared.verdict.Verdict.the-variants.{Accepted}
+use Rattle.accept.proofs.Exactly.{accepted-exactly-when, entry-exactly-when}
 use Rattle.accept.proofs.InOrder.{in-order}
 use Rattle.accept.proofs.RowLaws.{entry-readable, entry-rising}
 use Rattle.accept.proofs.RuleLaws.{below-all}
@@ -54,11 +59,11 @@ fault-free {s} obeys i lt =
 
 pub row-readable : {s : List ℕ} → Obeys s → (i k : ℕ) → i < functionCount s → k < rowCount s i
     → Readable (areaOf s) (typeOf (entryIn s i .info)) (rowAt s i k)
-unfolding rowCount rowAt
+unfolding rowCount
 row-readable obeys i k lt inside = entry-readable _ _ _ (fault-free obeys i lt) k inside
 
 pub rows-rising : {s : List ℕ} → Obeys s → (i j k : ℕ) → i < functionCount s → j < k → k < rowCount s i → rowStartAt s i j < rowStartAt s i k
-unfolding rowCount rowAt rowStartAt
+unfolding rowCount rowStartAt
 rows-rising obeys i j k lt less inside = entry-rising _ _ _ (fault-free obeys i lt) j k less inside
 
 pub rows-sum : {s : List ℕ} → Obeys s → rowsBelow s (functionCount s) ≡ layoutOf s .rows
@@ -87,3 +92,36 @@ sorted-apart {s} obeys set =
     (λ i j k p q. pass-on p (pass-on (no-less (functionStart s j) (entryIn s j .size)) q))
     (functionCount s)
     (λ i lt. let before : suc i - 1 ≡ i = omega arith in rw before at (obeys .entries (suc i) lt .rule14 set (omega arith)))
+
+-- ---- the same functions
+
+allowed : {s : List ℕ} → Obeys s → (i : ℕ) → i < functionCount s → AllowedRows s i
+unfolding rowCount rowInfoAt
+allowed obeys i lt k inside =
+    let rule = obeys .entries i lt .rows k inside .rule12 in
+    (rule .1, rule .2)
+
+-- in two accepted sections of one ABI, two functions are decoded to equal ones exactly when they are the same
+pub accepted-same : (s t : List ℕ) → verdict s ≡ Accepted → verdict t ≡ Accepted → layoutOf s .abi ≡ layoutOf t .abi
+    → (i j : ℕ) → i < functionCount s → j < functionCount t → (functionIn s i ≡ functionIn t j) ↔ SameFunction s i t j
+accepted-same s t e f abi i j lt less =
+    function-same s t i j abi (allowed (accepted-exactly-when s .0 e) i lt) (allowed (accepted-exactly-when t .0 f) j less)
+
+-- ---- all of it, from the verdict
+
+pub accepted-laws : (s : List ℕ) → verdict s ≡ Accepted → Reliable s
+accepted-laws s e =
+    let obeys = accepted-exactly-when s .0 e in
+    record {
+      header = obeys .header;
+      abi = known-abi (obeys .header);
+      few = few-functions (obeys .header);
+      table = entry-inside (obeys .header);
+      area = area-inside (obeys .header);
+      bytes = area-length (obeys .header);
+      entries = fault-free obeys;
+      rows = row-readable obeys;
+      rising = rows-rising obeys;
+      apart = sorted-apart obeys;
+      sum = rows-sum obeys;
+    }

@@ -8,10 +8,10 @@ use mathlib.Core.Logic.{_⊎_, inl, inr, _↔_, Iff·trans, ⊎-elim}
 use Prim.Native.Nat.{ℕ, _-_, _<_}
 use lib.ListN.{getD}
 use Rattle.section.specs.Entry.{typeOf}
-use Rattle.section.specs.Meaning.{areaOf, shapeOf, entryIn}
+use Rattle.section.specs.Meaning.{areaOf, shapeOf, entryIn, rowAt}
 use Rattle.accept.specs.Checks.{headerTests, headerFault, entryTests, rowTests, rowFault, lowOf, rowFaultIn, rowsFault, entryFault, turnFault, sumFault, entriesVerdict, verdict}
 use Rattle.accept.specs.Given.{Rule, short, long, magic, version, flags, abi, fixed, sizes, entryInfo, repeatSize, rowsInside, rowInfo, rowStart, sorted, rowSum, numberOfRule, Reached, RowsReached, RowReached, Given}
-use Rattle.accept.specs.Rules.{functionCount, rowCount, rowAt, rowInfoAt, rowLengthAt, rowStartAt, Rule9, Rule10, Rule11First, Rule14, Rule15, HeaderObeys, RowObeys, EntryObeys, Obeys}
+use Rattle.accept.specs.Rules.{functionCount, rowCount, rowInfoAt, rowLengthAt, rowStartAt, Rule9, Rule10, Rule11First, Rule14, Rule15, HeaderObeys, RowObeys, EntryObeys, Obeys}
 use Rattle.accept.specs.declared.verdict.Fault.the-variants.{Sound, Breaks}
 use Rattle.accept.specs.declared.verdict.Verdict.the-variants.{Accepted, Refused}
 use Rattle.accept.proofs.Decides.{not-below, by-test, one-test}
@@ -54,14 +54,14 @@ row-same s i k =
 
 pub row-exactly-when : (s : List ℕ) (i k : ℕ)
     → (rowFaultIn (areaOf s) (shapeOf s) (typeOf (entryIn s i .info)) (entryIn s i .first) k ≡ Sound) ↔ RowObeys s i k
-unfolding rowFaultIn rowAt
+unfolding rowFaultIn
 row-exactly-when s i k = Iff·trans (row-sound _ _ _ _ _) (row-same s i k)
 
 -- 9 to 13
 pub entry-exactly-when : (s : List ℕ) (i : ℕ)
     → (entryFault (areaOf s) (shapeOf s) (entryIn s i) ≡ Sound)
     ↔ (Rule9 s i × Rule10 s i × Rule11First s i × ((k : ℕ) → k < rowCount s i → RowObeys s i k))
-unfolding rowCount rowAt
+unfolding rowCount
 entry-exactly-when s i =
     Iff·trans (entry-sound (areaOf s) (shapeOf s) (entryIn s i)) (
       λ h. (h .info, h .repeat, h .first, λ k lt. row-same s i k .0 (h .rows k lt)),
@@ -120,7 +120,7 @@ entry-given s number i reached broken =
 
 -- 11 to 13 at row k
 row-given : (s : List ℕ) (number i k : ℕ) → RowReached s i k → FirstBroken (rowTestsAt s i k) (rowRules s i k) number → verdict s ≡ Refused number i
-unfolding turnFault entryFault rowsFault rowFaultIn rowFault rowCount rowAt
+unfolding turnFault entryFault rowsFault rowFaultIn rowFault rowCount
 row-given s number i k reached broken =
     let at = reached .rows in
     let own = table-sound (entry-table s i) .1 (at .rule9, (at .rule10, (at .first, tt))) in

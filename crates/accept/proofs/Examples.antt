@@ -1,7 +1,7 @@
 -- The verdict on written-out sections, each by computation: cases K1, K2, K3, K8 and K9 of document 01, the numbers 3 to 15
 -- by one changed byte each, what section S means, and a wrong order of the checks, which answers otherwise.
 -- Assumes nothing.
-use mathlib.Core.Path.{_≡_, refl}
+use mathlib.Core.Path.{_≡_, refl, sym, _∙_}
 use mathlib.Core.Bool.{false}
 use mathlib.Core.List.{List, [], _∷_, map}
 use Prim.Native.Nat.{ℕ}
@@ -18,6 +18,7 @@ use Rattle.accept.specs.Opened.{acceptOpened}
 use Rattle.accept.specs.declared.verdict.Fault.{Fault}
 use Rattle.accept.specs.declared.verdict.Verdict.{Verdict}
 use Rattle.accept.specs.declared.verdict.Verdict.the-variants.{Accepted, Refused}
+use Rattle.accept.proofs.FaultLaws.{accepted-or-refused}
 
 -- "Section S, 78 bytes, AMD64, sorted, whole"
 sectionS : List ℕ
@@ -52,6 +53,13 @@ K8 = refl
 K9 : verdict (set overlapping 3 0x00) ≡ Accepted
 unfolding acceptOpened sectionS overlapping
 K9 = refl
+
+-- a checker that refuses everything, and one that accepts everything, is not ours
+not-refusing-all : ¬ ((s : List ℕ) → (number : ℕ) × (index : ℕ) × (verdict s ≡ Refused number index))
+not-refusing-all all = accepted-or-refused (sym K1 ∙ all sectionS .2)
+
+not-accepting-all : ¬ ((s : List ℕ) → verdict s ≡ Accepted)
+not-accepting-all all = accepted-or-refused (sym (all (take 27 sectionS)) ∙ K3)
 
 -- S with the byte at a place changed, and the number and index that it is given
 changed : List (ℕ × ℕ × Verdict)

@@ -15,10 +15,10 @@ use Rattle.numbers.specs.declared.field.Order.the-variants.{Little, Big}
 use Rattle.numbers.specs.declared.offset.Offset.{Offset}
 use Rattle.section.specs.Entry.{typeOf, repeats}
 use Rattle.section.specs.Header.{magicIn, orderOf, marksOf, sizesOf, layoutFrom, layoutOf}
-use Rattle.section.specs.Meaning.{areaOf, shapeOf, entryIn, listed}
+use Rattle.section.specs.Meaning.{areaOf, shapeOf, entryIn, listed, rowAt}
 use Rattle.section.specs.Shape.{knownAbi}
 use Rattle.accept.specs.Checks.{sameOrder, wrongAbi, sameOffset, wrongFixed, wrongSizes, headerTests, wrongEntryInfo, entryTests, wrongRowInfo, rowTests, lowOf, endIn, outOfOrder, rowsBelow}
-use Rattle.accept.specs.Rules.{functionCount, rowCount, rowAt, rowInfoAt, rowLengthAt, rowStartAt, functionStart, functionEnd, Rule1, Rule2, Rule3, Rule4, Rule5, Rule6, Rule7, Rule8, Rule9, Rule10, Rule11First, Rule11Fixed, Rule11Offsets, Rule12, Rule13, Rule14, Rule15}
+use Rattle.accept.specs.Rules.{functionCount, rowCount, rowInfoAt, rowLengthAt, rowStartAt, functionStart, functionEnd, Rule1, Rule2, Rule3, Rule4, Rule5, Rule6, Rule7, Rule8, Rule9, Rule10, Rule11First, Rule11Fixed, Rule11Offsets, Rule12, Rule13, Rule14, Rule15}
 use Rattle.accept.proofs.Decides.{Decides, Shows, always, never, shown, denied, not-below, positive, at-most, equal, same-rule, unless, neither, none-of, where-set, both, either}
 use Rattle.accept.proofs.FaultLaws.{Table, end, line}
 use Rattle.accept.proofs.RowLaws.{row-info-decides, entry-info-decides}
@@ -105,7 +105,7 @@ rule11-offsets s i k = not-below _ _
 -- the least start that row k may have, against the start of the row before it
 pub rule13 : (s : List ℕ) (i k : ℕ)
     → Decides (ltb (rowStartAt s i k) (lowOf (areaOf s) (shapeOf s .order) (typeOf (entryIn s i .info)) (entryIn s i .first) k)) (Rule13 s i k)
-unfolding lowOf rowStartAt rowAt
+unfolding lowOf rowStartAt
 rule13 s i zero = same-rule (λ le lt. absurd (omega arith), λ rule. omega arith) (not-below (rowStartAt s i 0) 0)
 rule13 s i (suc k) =
     let before : suc k - 1 ≡ k = omega arith in

@@ -19,7 +19,7 @@ use Rattle.section.specs.Header.{layoutOf}
 use Rattle.section.specs.Meaning.{areaOf, shapeOf, entryIn}
 use Rattle.accept.specs.Checks.{firstBad, andThen, givenAt, thenTry, firstOf, entryFault, endIn, outOfOrder, turnFault, rowsBelow, sumFault, entriesVerdict}
 use Rattle.accept.specs.declared.verdict.Fault.the-variants.{Sound, Breaks}
-use Rattle.accept.specs.declared.verdict.Verdict.the-variants.{Accepted, Refused}
+use Rattle.accept.specs.declared.verdict.Verdict.the-variants.{Refused}
 use Rattle.accept.proofs.FaultLaws.{first-next, first-stop}
 
 -- `low` holds where the entry before entry i ends, and is 0 before the first

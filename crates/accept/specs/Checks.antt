@@ -3,7 +3,7 @@
 use Prim.Native.Nat.{ℕ, zero, suc, _+_, _*_, _^_}
 use mathlib.Core.Bool.{Bool, true, false, not, _&&_, _||_}
 use mathlib.Core.List.{List, [], _∷_}
-use lib.Dec.{leb, ltb, eqb}
+use lib.Dec.{ltb, eqb}
 use lib.IntN.{ℤ, pos, _+ℤ_}
 use lib.ListN.{length}
 use lib.Signed.{leZ, ltZ}
@@ -178,10 +178,10 @@ unfoldable pub verdict : List ℕ → Verdict
 verdict s = thenTry (givenAt 0 (headerFault s)) (entriesVerdict s)
 
 -- document 01's number of a verdict, 0 where accepted, and its index
-unfoldable pub numberOf : Verdict → ℕ
-numberOf Accepted = 0
-numberOf (Refused number index) = number
+unfoldable pub verdictNumber : Verdict → ℕ
+verdictNumber Accepted = 0
+verdictNumber (Refused number index) = number
 
-unfoldable pub indexOf : Verdict → ℕ
-indexOf Accepted = 0
-indexOf (Refused number index) = index
+unfoldable pub verdictIndex : Verdict → ℕ
+verdictIndex Accepted = 0
+verdictIndex (Refused number index) = index

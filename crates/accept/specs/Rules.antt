@@ -1,7 +1,7 @@
 -- The rules of document 01's table, 1 to 15, each as a plain proposition: what a section that obeys it is like. A rule of an
 -- entry speaks of entry i, a rule of a row of row k of entry i. Nothing here says how or in which order they are tried.
 use mathlib.Core.Path.{_≡_}
-use mathlib.Core.Bool.{Bool, true, false}
+use mathlib.Core.Bool.{true, false}
 use mathlib.Core.Logic.{_⊎_}
 use mathlib.Core.List.{List, sum}
 use Prim.Native.Nat.{ℕ, _+_, _-_, _*_, _^_, _≤_, _<_}
@@ -12,8 +12,8 @@ use Rattle.numbers.specs.Field.{fieldOf}
 use Rattle.numbers.specs.declared.field.Order.the-variants.{Little, Big}
 use Rattle.section.specs.Entry.{typeOf, repeats, startOf}
 use Rattle.section.specs.Header.{bitOf, orderOf, marksOf, sizesOf, layoutOf}
-use Rattle.section.specs.Meaning.{areaOf, shapeOf, entryIn, listed}
-use Rattle.section.specs.Row.{infoOf, countOf, sizeOf, rowLength, rowPlace, rowStart}
+use Rattle.section.specs.Meaning.{areaOf, shapeOf, entryIn, listed, rowAt}
+use Rattle.section.specs.Row.{infoOf, countOf, sizeOf, rowLength, rowStart}
 
 -- ---- the section's parts, in short
 
@@ -25,10 +25,7 @@ functionCount s = layoutOf s .functions
 unfoldable pub rowCount : List ℕ → ℕ → ℕ
 rowCount s i = entryIn s i .rows
 
--- where row k of function i stands in the row area, its info byte, how long it is, and its start
-unfoldable pub rowAt : List ℕ → ℕ → ℕ → ℕ
-rowAt s i k = rowPlace (areaOf s) (typeOf (entryIn s i .info)) (entryIn s i .first) k
-
+-- the info byte of row k of function i, how long it is, and its start
 unfoldable pub rowInfoAt : List ℕ → ℕ → ℕ → ℕ
 rowInfoAt s i k = infoOf (areaOf s) (typeOf (entryIn s i .info)) (rowAt s i k)
 
@@ -92,7 +89,7 @@ Rule9 s i = (bitOf 6 (entryIn s i .info) ≡ false) × (bitOf 7 (entryIn s i .in
 abbrev pub Rule10 : List ℕ → ℕ → Type 0
 Rule10 s i = repeats (entryIn s i .info) ≡ true → 0 < entryIn s i .repeat
 
--- 11: the first row offset is not above the row bytes
+-- 11: the first row offset is not above the row bytes, which by rule 8 are the row area's length
 abbrev pub Rule11First : List ℕ → ℕ → Type 0
 Rule11First s i = entryIn s i .first ≤ length (areaOf s)
 

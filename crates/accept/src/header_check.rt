@@ -10,7 +10,7 @@ use section::header::order_at;
 use section::header::sizes_at;
 use section::shape::abi_of;
 use section::shape::shape_of;
-ghost use mathlib.Core.Bool.{_||_, not};
+ghost use mathlib.Core.Bool.{_||_};
 ghost use mathlib.Core.Path.{_≡_};
 ghost use Prim.Native.Nat.{_≤_};
 ghost use lib.ListN.{length, drop};

@@ -1,11 +1,10 @@
 -- The offsets of a row: how many bytes they can have, and that each one announced lies within them.
 -- Assumes nothing.
-use mathlib.Core.Path.{_≡_, sym}
+use mathlib.Core.Path.{sym}
 use mathlib.Core.List.{List}
-use Prim.Native.Nat.{ℕ, suc, _+_, _*_, _^_, _≤_, _<_}
+use Prim.Native.Nat.{ℕ, _+_, _*_, _^_, _≤_, _<_}
 use native.Mathlib.Nat.{mul-le-mul, mul-le-mul-right, suc-mul}
 use native.Mathlib.Omega.{arith}
-use lib.ListN.{length}
 use lib.Pow.{pow-mono}
 use Rattle.section.specs.Row.{infoOf, countOf, sizeOf, offsetsLength, rowLength, Readable, Announced}
 

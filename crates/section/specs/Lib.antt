@@ -3,4 +3,5 @@ pub mod Header
 pub mod Meaning
 pub mod Opened
 pub mod Row
+pub mod Same
 pub mod Shape

@@ -1,6 +1,6 @@
 -- The meaning of a section: the list of its functions, in the order in which it lists them. What document 01 says does not
 -- count (field widths, key bit, padding, place in the row area, the repeat size of a plain block, the signed bit on AMD64)
--- is left out, so that two functions, or two rows, are the same exactly when they are equal.
+-- is left out, so that two functions, or two rows, are the same exactly when they are equal (`function-same`, `row-same`).
 use Prim.Native.Nat.{ℕ, zero, suc, _+_, _*_}
 use mathlib.Core.Bool.{true, false}
 use mathlib.Core.List.{List, [], _∷_}
@@ -44,6 +44,10 @@ entryIn s i = entryOf s (orderOf s) (layoutOf s .table + 20 * i)
 
 unfoldable pub blockOf : Entry → Block
 blockOf entry = elim (repeats (entry .info)) [ true ↦ repeated (entry .repeat) | false ↦ plain ]
+
+-- where row k of function i stands in the row area
+abbrev pub rowAt : List ℕ → ℕ → ℕ → ℕ
+rowAt s i k = rowPlace (areaOf s) (typeOf (entryIn s i .info)) (entryIn s i .first) k
 
 -- row k of an entry
 unfoldable pub rowIn : List ℕ → Shape → Entry → ℕ → Row

@@ -5,8 +5,9 @@ use Rattle.section.specs.Entry.{entryOf, typeOf, repeats, positionOf, st
 use Rattle.section.specs.Header.{bitOf, magicIn, orderOf, marksOf, sizesOf, layoutFrom, layoutOf}
 use Rattle.section.specs.Meaning.{listed, areaOf, shapeOf, entryIn, blockOf, rowIn, functionIn, functionsOf}
 use Rattle.section.specs.Row.{infoOf, baseOf, countOf, sizeOf, signedBit, offsetsLength, rowLength, rowPlace, rowStart, offsetIn, placeIn, raIn, rowOf}
+use Rattle.section.specs.Same.{offsetsIn}
 use Rattle.section.specs.Shape.{knownAbi, abiOf, aarch64Shape, amd64Shape, shape}
 
 unfoldable pub sectionOpened : Unit {0}
-unfolding numbersOpened entryOf typeOf repeats positionOf startOf bitOf magicIn orderOf marksOf sizesOf layoutFrom layoutOf listed areaOf shapeOf entryIn blockOf rowIn functionIn functionsOf infoOf baseOf countOf sizeOf signedBit offsetsLength rowLength rowPlace rowStart offsetIn placeIn raIn rowOf knownAbi abiOf aarch64Shape amd64Shape shape
+unfolding numbersOpened entryOf typeOf repeats positionOf startOf bitOf magicIn orderOf marksOf sizesOf layoutFrom layoutOf listed areaOf shapeOf entryIn blockOf rowIn functionIn functionsOf infoOf baseOf countOf sizeOf signedBit offsetsLength rowLength rowPlace rowStart offsetIn placeIn raIn rowOf offsetsIn knownAbi abiOf aarch64Shape amd64Shape shape
 sectionOpened = tt

@@ -1,7 +1,6 @@
 -- `suntimpani_check` flattens the verdict of `check`.
 -- Assumes nothing.
 use borrow.Author.Needs.{needs}
-use mathlib.Core.Path.{_≡_}
 use Rattle.suntimpani.proofs.suntimpani_check.Statement.{statement}
 use Rattle.suntimpani.proofs.suntimpani_check.Tie as tie
 

@@ -1,7 +1,7 @@
 -- `entry_check::wrong_entry_info` tries the three parts of check 9 in turn.
 -- Assumes nothing.
 use borrow.Author.Needs.{needs}
-use mathlib.Core.Path.{_≡_, sym, _∙_}
+use mathlib.Core.Path.{sym, _∙_}
 use borrow.Author.Tests.{lt-ltb, le-ltb}
 use Rattle.accept.specs.Checks.{wrongEntryInfo}
 use Rattle.accept.proofs.entry_check.wrong_entry_info.Statement.{statement}

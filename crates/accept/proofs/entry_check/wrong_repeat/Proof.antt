@@ -1,7 +1,7 @@
 -- `entry_check::wrong_repeat` asks for the repeat size only where the block repeats.
 -- Assumes nothing.
 use borrow.Author.Needs.{needs}
-use mathlib.Core.Path.{_≡_, sym, _∙_}
+use mathlib.Core.Path.{sym, _∙_}
 use borrow.Author.Tests.{eq-eqb, ne-eqb}
 use Rattle.accept.proofs.entry_check.wrong_repeat.Statement.{statement}
 use Rattle.accept.proofs.entry_check.wrong_repeat.Tie as tie

@@ -1,8 +1,8 @@
 -- `header_check::check_header` tries the lines of the table in order, from the fourth on in `check_parts`.
 -- Assumes nothing.
 use borrow.Author.Needs.{needs}
-use mathlib.Core.Path.{_≡_, sym, _∙_, ap}
-use mathlib.Core.Bool.{true, false, not}
+use mathlib.Core.Path.{sym, _∙_, ap}
+use mathlib.Core.Bool.{not}
 use borrow.Author.Tests.{lt-ltb, le-ltb}
 use Rattle.accept.specs.Checks.{headerTests, headerFault}
 use Rattle.accept.proofs.TableLaws.{test-true, test-false}

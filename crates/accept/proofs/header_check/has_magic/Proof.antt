@@ -1,10 +1,7 @@
 -- `header_check::has_magic` tries the two orders.
 -- Assumes nothing.
 use borrow.Author.Needs.{needs}
-use mathlib.Core.Path.{_≡_, sym, _∙_}
-use mathlib.Core.Bool.{true, false}
-use Rattle.numbers.specs.declared.field.Order.the-variants.{Little}
-use Rattle.section.specs.Header.{magicIn}
+use mathlib.Core.Path.{sym, _∙_}
 use Rattle.accept.proofs.header_check.has_magic.Statement.{statement}
 use Rattle.accept.proofs.header_check.has_magic.Tie as tie
 

@@ -2,7 +2,7 @@
 -- Assumes nothing.
 use borrow.Author.Needs.{needs}
 use mathlib.Core.Path.{_≡_}
-use mathlib.Core.Bool.{true, false, not}
+use mathlib.Core.Bool.{true}
 use lib.Signed.{leZ}
 use Rattle.accept.specs.Checks.{sameOffset}
 use Rattle.accept.proofs.SameLaws.{not-above}

@@ -2,9 +2,7 @@
 -- Assumes nothing.
 use borrow.Author.Needs.{needs}
 use mathlib.Core.Path.{_≡_, sym, _∙_}
-use mathlib.Core.Bool.{true, false}
 use borrow.Author.Tests.{le-leb, lt-leb}
-use Rattle.numbers.specs.declared.field.Order.{Order}
 use Rattle.section.specs.Shape.{knownAbi, abiOf, shape}
 use Rattle.accept.specs.Checks.{sameOrder, wrongAbi}
 use Rattle.accept.proofs.header_check.wrong_abi.Statement.{statement}

@@ -1,7 +1,6 @@
 -- `header_check::wrong_sizes` tries the three parts of check 8 in turn.
 -- Assumes nothing.
 use borrow.Author.Needs.{needs}
-use mathlib.Core.Path.{_≡_, sym}
 use borrow.Author.Tests.{eq-eqb, ne-eqb}
 use Rattle.accept.specs.Checks.{wrongSizes}
 use Rattle.accept.proofs.header_check.wrong_sizes.Statement.{statement}

@@ -1,9 +1,8 @@
 -- `row_check::wrong_row_info` tries the three parts of check 12 in turn.
 -- Assumes nothing.
 use borrow.Author.Needs.{needs}
-use mathlib.Core.Path.{_≡_, sym, _∙_}
+use mathlib.Core.Path.{sym, _∙_}
 use borrow.Author.Tests.{eq-eqb, ne-eqb, lt-ltb, le-ltb}
-use Rattle.section.specs.Row.{countOf, sizeOf}
 use Rattle.accept.specs.Checks.{wrongRowInfo}
 use Rattle.accept.proofs.row_check.wrong_row_info.Statement.{statement}
 use Rattle.accept.proofs.row_check.wrong_row_info.Tie as tie

@@ -1,7 +1,7 @@
 -- `section_check::check` tries the header, and goes on where it is sound.
 -- Assumes nothing.
 use borrow.Author.Needs.{needs}
-use mathlib.Core.Path.{_≡_, sym, _∙_}
+use mathlib.Core.Path.{sym, _∙_}
 use Rattle.accept.specs.Checks.{givenAt, thenTry, verdict}
 use Rattle.accept.proofs.section_check.check.Statement.{statement}
 use Rattle.accept.proofs.section_check.check.Tie as tie

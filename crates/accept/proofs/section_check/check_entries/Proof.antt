@@ -1,15 +1,12 @@
 -- `section_check::check_entries` opens the section: what it hands on are the section's own parts.
 -- Assumes nothing.
-use native.Mathlib.Omega.{arith}
 use borrow.Author.Needs.{needs}
-use mathlib.Core.Path.{_≡_, refl, sym, _∙_, ap}
+use mathlib.Core.Path.{_∙_, ap}
 use Prim.Native.Nat.{_≤_}
 use denote.Ref.{now}
 use lib.ListN.{length, drop}
 use Rattle.section.proofs.AreaLaws.{to-the-end}
-use Rattle.section.specs.Header.{layoutOf}
 use Rattle.section.specs.Meaning.{areaOf, shapeOf}
-use Rattle.accept.specs.Inner.{PartsOf}
 use Rattle.accept.specs.Rules.{HeaderObeys}
 use Rattle.accept.proofs.AcceptedLaws.{area-inside}
 use Rattle.accept.proofs.Exactly.{header-exactly-when}

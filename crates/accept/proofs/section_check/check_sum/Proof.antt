@@ -1,6 +1,6 @@
 -- `section_check::check_sum` is the one test of 15.
 -- Assumes nothing.
-use mathlib.Core.Path.{_≡_, sym, _∙_, ap}
+use mathlib.Core.Path.{sym, _∙_, ap}
 use mathlib.Core.Bool.{not}
 use borrow.Author.Tests.{eq-eqb, ne-eqb}
 use Rattle.accept.specs.Checks.{givenAt}

@@ -1,7 +1,7 @@
 -- `section_check::check_turn` tries 14 only where the entry by itself is sound.
 -- Assumes nothing.
 use borrow.Author.Needs.{needs}
-use mathlib.Core.Path.{_≡_, sym, _∙_}
+use mathlib.Core.Path.{sym, _∙_}
 use Rattle.accept.specs.Checks.{andThen}
 use Rattle.accept.proofs.TableLaws.{test-true, test-false, no-test}
 use Rattle.accept.proofs.section_check.check_turn.Statement.{statement}

@@ -1,7 +1,6 @@
 -- `section_check::starts_below` compares only where the section is sorted.
 -- Assumes nothing.
 use borrow.Author.Needs.{needs}
-use mathlib.Core.Path.{_≡_}
 use borrow.Author.Tests.{lt-ltb, le-ltb}
 use Rattle.accept.proofs.section_check.starts_below.Statement.{statement}
 use Rattle.accept.proofs.section_check.starts_below.Tie as tie

@@ -1,6 +1,5 @@
 -- `entry::position_of` is the entry's place under flag 0x4, else 0.
 -- Assumes nothing.
-use mathlib.Core.Path.{_≡_}
 use Rattle.section.specs.Entry.{positionOf}
 use Rattle.section.proofs.entry.position_of.Statement.{statement}
 use Rattle.section.proofs.entry.position_of.Tie as tie

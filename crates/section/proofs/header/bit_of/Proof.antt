@@ -1,7 +1,7 @@
 -- `header::bit_of` shifts the byte down by k, which divides it by 2 ^ k.
 -- Assumes nothing.
 use borrow.Author.Needs.{needs}
-use mathlib.Core.Path.{_≡_, sym}
+use mathlib.Core.Path.{sym}
 use borrow.Author.Tests.{eq-eqb, ne-eqb}
 use Rattle.section.specs.Header.{bitOf}
 use Rattle.section.proofs.header.bit_of.Statement.{statement}

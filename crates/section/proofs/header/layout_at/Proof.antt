@@ -1,7 +1,6 @@
 -- `header::layout_at` puts together what the header's two halves say.
 -- Assumes nothing.
 use borrow.Author.Needs.{needs}
-use mathlib.Core.Path.{_≡_}
 use Rattle.section.specs.Header.{layoutFrom, layoutOf}
 use Rattle.section.proofs.header.layout_at.Statement.{statement}
 use Rattle.section.proofs.header.layout_at.Tie as tie

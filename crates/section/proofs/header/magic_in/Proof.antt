@@ -1,7 +1,7 @@
 -- `header::magic_in` compares the first two bytes, read in the order, with the magic.
 -- Assumes nothing.
 use borrow.Author.Needs.{needs}
-use mathlib.Core.Path.{_≡_, sym, _∙_}
+use mathlib.Core.Path.{sym, _∙_}
 use borrow.Author.Tests.{eq-eqb, ne-eqb}
 use Rattle.section.specs.Header.{magicIn}
 use Rattle.section.proofs.header.magic_in.Statement.{statement}

@@ -1,7 +1,7 @@
 -- `header::order_at` is little where the magic is, else big.
 -- Assumes nothing.
 use borrow.Author.Needs.{needs}
-use mathlib.Core.Path.{_≡_, sym, _∙_}
+use mathlib.Core.Path.{sym, _∙_}
 use Rattle.section.specs.Header.{orderOf}
 use Rattle.section.proofs.header.order_at.Statement.{statement}
 use Rattle.section.proofs.header.order_at.Tie as tie

@@ -1,7 +1,7 @@
 -- `row::base_of` is SP where bit 0 is set, else FP.
 -- Assumes nothing.
 use borrow.Author.Needs.{needs}
-use mathlib.Core.Path.{_≡_, sym, _∙_}
+use mathlib.Core.Path.{sym, _∙_}
 use Rattle.section.specs.Row.{baseOf}
 use Rattle.section.proofs.row.base_of.Statement.{statement}
 use Rattle.section.proofs.row.base_of.Tie as tie

@@ -1,7 +1,6 @@
 -- `row::is_signed` reads bit 7 where the ABI signs, else it is false.
 -- Assumes nothing.
 use borrow.Author.Needs.{needs}
-use mathlib.Core.Path.{_≡_}
 use Rattle.section.specs.Row.{signedBit}
 use Rattle.section.proofs.row.is_signed.Statement.{statement}
 use Rattle.section.proofs.row.is_signed.Tie as tie

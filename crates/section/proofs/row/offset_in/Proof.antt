@@ -2,7 +2,6 @@
 -- Assumes nothing.
 use native.Mathlib.Omega.{arith}
 use borrow.Author.Needs.{needs}
-use Prim.Native.Nat.{_+_, _*_, _^_}
 use Rattle.section.specs.Row.{offsetIn}
 use Rattle.section.proofs.row.offset_in.Statement.{statement}
 use Rattle.section.proofs.row.offset_in.Tie as tie

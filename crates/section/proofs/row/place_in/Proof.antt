@@ -2,8 +2,8 @@
 -- Assumes nothing.
 use native.Mathlib.Omega.{arith}
 use borrow.Author.Needs.{needs}
-use mathlib.Core.Path.{_≡_, sym, _∙_, ap}
-use Prim.Native.Nat.{_+_, _*_, _^_, _≤_, _<_}
+use mathlib.Core.Path.{ap}
+use Prim.Native.Nat.{_<_}
 use borrow.Author.Tests.{lt-ltb, le-ltb}
 use Rattle.section.specs.Row.{countOf, placeIn}
 use Rattle.section.specs.declared.row.Place.the-variants.{AtOffset}

@@ -1,7 +1,6 @@
 -- `row::ra_in` is at the fixed offset where the ABI has one, else where the second offset says.
 -- Assumes nothing.
 use borrow.Author.Needs.{needs}
-use mathlib.Core.Path.{_≡_}
 use Rattle.section.specs.Row.{raIn}
 use Rattle.section.proofs.row.ra_in.Statement.{statement}
 use Rattle.section.proofs.row.ra_in.Tie as tie

@@ -2,8 +2,6 @@
 -- Assumes nothing.
 use native.Mathlib.Omega.{arith}
 use borrow.Author.Needs.{needs}
-use mathlib.Core.Path.{_≡_}
-use Prim.Native.Nat.{_+_, _*_, _^_, _≤_}
 use Rattle.section.specs.Row.{infoOf, rowStart, rowOf}
 use Rattle.section.proofs.OffsetLaws.{offset-within, offsets-of}
 use Rattle.section.proofs.row.row_at.Statement.{statement}

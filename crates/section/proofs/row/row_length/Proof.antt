@@ -1,7 +1,6 @@
 -- `row::row_length` adds the start, the info byte and the offsets.
 -- Assumes nothing.
 use borrow.Author.Needs.{needs}
-use mathlib.Core.Path.{_≡_}
 use Rattle.section.specs.Row.{rowLength}
 use Rattle.section.proofs.row.row_length.Statement.{statement}
 use Rattle.section.proofs.row.row_length.Tie as tie

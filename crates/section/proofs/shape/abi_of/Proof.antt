@@ -1,7 +1,6 @@
 -- `shape::abi_of` takes each code to its ABI.
 -- Assumes nothing.
 use native.Mathlib.Omega.{arith}
-use mathlib.Core.Path.{_≡_}
 use borrow.Author.Tests.{eq-eqb, ne-eqb}
 use Rattle.section.specs.Shape.{abiOf}
 use Rattle.section.proofs.shape.abi_of.Statement.{statement}

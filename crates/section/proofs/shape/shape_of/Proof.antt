@@ -1,7 +1,6 @@
 -- `shape::shape_of` takes each ABI to its own shape.
 -- Assumes nothing.
 use borrow.Author.Needs.{needs}
-use mathlib.Core.Path.{_≡_}
 use Rattle.section.specs.Shape.{shape}
 use Rattle.section.proofs.shape.shape_of.Statement.{statement}
 use Rattle.section.proofs.shape.shape_of.Tie as tie
