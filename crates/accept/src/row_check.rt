@@ -47,7 +47,7 @@ fn check_row(area: &[u8], shape: Shape, code: usize, at: usize) -> Fault
 
 // All rows of a function, the first of which stands at `first`. `low` is the least start that the next row may have. A start
 // is read once, for its own test and for the next row's.
-pub fn check_rows(area: &[u8], shape: Shape, code: usize, first: usize, count: u32) -> Fault
+fn walk_rows(area: &[u8], shape: Shape, code: usize, first: usize, count: u32) -> Fault
     requires { ⌜ (code ≤ 2) × (first ≤ length (now area)) ⌝ }
     ensures { λ r. ⌜ r ≡ rowsFault (now (area .entry)) shape code first count ⌝ }
 {
@@ -71,4 +71,16 @@ pub fn check_rows(area: &[u8], shape: Shape, code: usize, first: usize, count: u
         k = k + 1;
     }
     Fault::Sound
+}
+
+// The rows by their type, told apart outside the walk, so that each walk is compiled for its own width of start.
+pub fn check_rows(area: &[u8], shape: Shape, code: usize, first: usize, count: u32) -> Fault
+    requires { ⌜ (code ≤ 2) × (first ≤ length (now area)) ⌝ }
+    ensures { λ r. ⌜ r ≡ rowsFault (now (area .entry)) shape code first count ⌝ }
+{
+    match code {
+        0 => walk_rows(area, shape, 0, first, count),
+        1 => walk_rows(area, shape, 1, first, count),
+        _ => walk_rows(area, shape, 2, first, count),
+    }
 }
