@@ -1,7 +1,7 @@
 -- What the layers above rely on in a section that obeys the rules: where its parts lie, how many functions it has, that its rows
 -- can be read and rise, and that sorted functions lie apart.
 -- Assumes nothing.
-use mathlib.Core.Path.{_≡_, refl, _∙_}
+use mathlib.Core.Path.{_≡_, refl}
 use mathlib.Core.Bool.{Bool, true, false}
 use mathlib.Core.List.{List}
 use mathlib.Core.Logic.{_↔_}
@@ -19,7 +19,7 @@ use Rattle.section.specs.Row.{Readable}
 use Rattle.section.specs.Same.{AllowedRows, SameFunction}
 use Rattle.section.specs.Shape.{knownAbi}
 use Rattle.section.proofs.SameLaws.{function-same}
-use Rattle.accept.specs.Checks.{entryFault, rowsBelow, verdict}
+use Rattle.accept.specs.Checks.{entryFault, verdict}
 use Rattle.accept.specs.Rules.{functionCount, rowCount, rowInfoAt, rowStartAt, functionStart, functionEnd, HeaderObeys, Obeys}
 use Rattle.accept.specs.Reliable.{Reliable}
 use Rattle.accept.specs.declared.verdict.Fault.the-variants.{Sound}
@@ -27,7 +27,6 @@ use Rattle.accept.specs.declared.verdict.Verdict.the-variants.{Accepted}
 use Rattle.accept.proofs.Exactly.{accepted-exactly-when, entry-exactly-when}
 use Rattle.accept.proofs.InOrder.{in-order}
 use Rattle.accept.proofs.RowLaws.{entry-readable, entry-rising}
-use Rattle.accept.proofs.RuleLaws.{below-all}
 
 -- ---- the header
 
@@ -65,9 +64,6 @@ row-readable obeys i k lt inside = entry-readable _ _ _ (fault-free obeys i lt) 
 pub rows-rising : {s : List ℕ} → Obeys s → (i j k : ℕ) → i < functionCount s → j < k → k < rowCount s i → rowStartAt s i j < rowStartAt s i k
 unfolding rowCount rowStartAt
 rows-rising obeys i j k lt less inside = entry-rising _ _ _ (fault-free obeys i lt) j k less inside
-
-pub rows-sum : {s : List ℕ} → Obeys s → rowsBelow s (functionCount s) ≡ layoutOf s .rows
-rows-sum {s} obeys = below-all s (functionCount s) ∙ obeys .rule15
 
 -- ---- sorted functions
 
@@ -123,5 +119,5 @@ accepted-laws s e =
       rows = row-readable obeys;
       rising = rows-rising obeys;
       apart = sorted-apart obeys;
-      sum = rows-sum obeys;
+      sum = obeys .rule15;
     }

@@ -10,8 +10,8 @@ use Rattle.section.specs.Header.{orderOf, marksOf, sizesOf, layoutOf}
 use Rattle.section.specs.Meaning.{areaOf, shapeOf, entryIn, rowAt}
 use Rattle.section.specs.Row.{Readable}
 use Rattle.section.specs.Shape.{knownAbi}
-use Rattle.accept.specs.Checks.{entryFault, rowsBelow}
-use Rattle.accept.specs.Rules.{functionCount, rowCount, rowStartAt, functionStart, functionEnd, HeaderObeys}
+use Rattle.accept.specs.Checks.{entryFault}
+use Rattle.accept.specs.Rules.{functionCount, rowCount, rowStartAt, functionStart, functionEnd, Rule15, HeaderObeys}
 use Rattle.accept.specs.declared.verdict.Fault.the-variants.{Sound}
 
 pub record Reliable (s : List ℕ) : Type 0 where
@@ -32,4 +32,4 @@ pub record Reliable (s : List ℕ) : Type 0 where
   -- in a sorted section every earlier function ends at or before every later one's start
   pub apart : layoutOf s .sorted ≡ true → (i j : ℕ) → i < j → j < functionCount s → functionEnd s i ≤ℤ functionStart s j
   -- the row counts add up
-  pub sum : rowsBelow s (functionCount s) ≡ layoutOf s .rows
+  pub sum : Rule15 s
