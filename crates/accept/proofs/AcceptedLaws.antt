@@ -14,13 +14,13 @@ use borrow.Author.Tests.{le-leb}
 use Rattle.numbers.proofs.DiffLaws.{Diff, diff-pos, diff-add, diff-le}
 use Rattle.section.specs.Entry.{typeOf}
 use Rattle.section.specs.Header.{orderOf, marksOf, sizesOf, layoutFrom, layoutOf}
-use Rattle.section.specs.Meaning.{areaOf, shapeOf, entryIn, rowAt, functionIn}
+use Rattle.section.specs.Meaning.{areaOf, shapeOf, entryIn, rowAt, functionIn, functionStart, functionEnd}
 use Rattle.section.specs.Row.{Readable}
 use Rattle.section.specs.Same.{AllowedRows, SameFunction}
 use Rattle.section.specs.Shape.{knownAbi}
 use Rattle.section.proofs.SameLaws.{function-same}
 use Rattle.accept.specs.Checks.{entryFault, verdict}
-use Rattle.accept.specs.Rules.{functionCount, rowCount, rowInfoAt, rowStartAt, functionStart, functionEnd, HeaderObeys, Obeys}
+use Rattle.accept.specs.Rules.{functionCount, rowCount, rowInfoAt, rowStartAt, HeaderObeys, Obeys}
 use Rattle.accept.specs.Reliable.{Reliable}
 use Rattle.accept.specs.declared.verdict.Fault.the-variants.{Sound}
 use Rattle.accept.specs.declared.verdict.Verdict.the-variants.{Accepted}
@@ -82,7 +82,6 @@ no-less (pos k) size = grown (diff-pos k) size
 no-less (negsuc k) size = grown {a = 0} {b = suc k} (record { apart = omega arith }) size
 
 pub sorted-apart : {s : List ℕ} → Obeys s → layoutOf s .sorted ≡ true → (i j : ℕ) → i < j → j < functionCount s → functionEnd s i ≤ℤ functionStart s j
-unfolding functionEnd
 sorted-apart {s} obeys set =
     in-order (λ i j. functionEnd s i ≤ℤ functionStart s j)
     (λ i j k p q. pass-on p (pass-on (no-less (functionStart s j) (entryIn s j .size)) q))

@@ -4,7 +4,7 @@ use mathlib.Core.Path.{_≡_, refl, sym, _∙_, ap, subst}
 use mathlib.Core.Bool.{Bool}
 use mathlib.Core.List.{List, [], _∷_}
 use mathlib.Core.Logic.{_⊎_, inl, inr, _↔_, Iff·trans, ⊎-elim}
-use Prim.Native.Nat.{ℕ, zero, suc, _+_, _≤_, _<_}
+use Prim.Native.Nat.{ℕ, zero, suc, _+_, _-_, _≤_, _<_}
 use native.Mathlib.Nat.{eq-or-lt-of-le}
 use native.Mathlib.Omega.{arith}
 use Rattle.accept.specs.Checks.{firstBad, andThen, givenAt, thenTry, firstOf, faultOf}
@@ -130,6 +130,23 @@ first-next fault left k e = rw e
 pub first-stop : (fault : ℕ → Fault) (left k : ℕ) {number : ℕ} → fault k ≡ Breaks number → firstOf fault (suc left) k ≡ Refused number k
 unfolding firstOf givenAt thenTry
 first-stop fault left k e = rw e
+
+-- the same of a loop that is at k of `count`: it goes on, stops, or is at its end
+pub left-goes-on : (fault : ℕ → Fault) (count k : ℕ) → k < count → fault k ≡ Sound → firstOf fault (count - k) k ≡ firstOf fault (count - suc k) (suc k)
+left-goes-on fault count k lt e =
+    let left : count - k ≡ suc (count - suc k) = omega arith in
+    rw left (first-next fault (count - suc k) k e)
+
+pub left-stops : (fault : ℕ → Fault) (count k : ℕ) {number : ℕ} → k < count → fault k ≡ Breaks number → firstOf fault (count - k) k ≡ Refused number k
+left-stops fault count k lt e =
+    let left : count - k ≡ suc (count - suc k) = omega arith in
+    rw left (first-stop fault (count - suc k) k e)
+
+pub left-ends : (fault : ℕ → Fault) (count k : ℕ) → count ≤ k → firstOf fault (count - k) k ≡ Accepted
+unfolding firstOf
+left-ends fault count k le =
+    let left : count - k ≡ 0 = omega arith in
+    rw left
 
 -- ---- and all turns, from k on
 

@@ -6,7 +6,7 @@ pub mod FaultLaws
 pub mod InOrder
 pub mod RowLaws
 pub mod RuleLaws
-pub mod SameLaws
+pub mod SignedTests
 pub mod TableLaws
 pub mod TurnLaws
 pub mod WalkLaws

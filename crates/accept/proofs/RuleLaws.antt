@@ -17,8 +17,8 @@ use Rattle.section.specs.Entry.{typeOf, repeats}
 use Rattle.section.specs.Header.{magicIn, orderOf, marksOf, sizesOf, layoutFrom, layoutOf}
 use Rattle.section.specs.Meaning.{areaOf, shapeOf, entryIn, listed, rowAt}
 use Rattle.section.specs.Shape.{knownAbi}
-use Rattle.accept.specs.Checks.{sameOrder, wrongAbi, sameOffset, wrongFixed, wrongSizes, headerTests, wrongEntryInfo, entryTests, wrongRowInfo, rowTests, lowOf, endIn, outOfOrder, rowsBelow}
-use Rattle.accept.specs.Rules.{functionCount, rowCount, rowInfoAt, rowLengthAt, rowStartAt, functionStart, functionEnd, Rule1, Rule2, Rule3, Rule4, Rule5, Rule6, Rule7, Rule8, Rule9, Rule10, Rule11First, Rule11Fixed, Rule11Offsets, Rule12, Rule13, Rule14, Rule15}
+use Rattle.accept.specs.Checks.{sameOrder, wrongAbi, sameOffset, wrongFixed, wrongSizes, headerTests, wrongEntryInfo, entryTests, wrongRowInfo, rowTests, lowOf, outOfOrder, rowsBelow}
+use Rattle.accept.specs.Rules.{functionCount, rowCount, rowInfoAt, rowLengthAt, rowStartAt, Rule1, Rule2, Rule3, Rule4, Rule5, Rule6, Rule7, Rule8, Rule9, Rule10, Rule11First, Rule11Fixed, Rule11Offsets, Rule12, Rule13, Rule14, Rule15}
 use Rattle.accept.proofs.Decides.{Decides, Shows, always, never, shown, denied, not-below, positive, at-most, equal, same-rule, unless, neither, none-of, where-set, both, either}
 use Rattle.accept.proofs.FaultLaws.{Table, end, line}
 use Rattle.accept.proofs.RowLaws.{row-info-decides, entry-info-decides}
@@ -117,7 +117,7 @@ not-less : (y z : ℤ) → Decides (ltZ y z) (z ≤ℤ y)
 not-less y z = record { holds = λ e. ltZ-no (rw e tt); broken = λ e le. clashℤ (ltZ-yes (rw e tt)) le }
 
 pub rule14 : (s : List ℕ) (i : ℕ) → Decides (outOfOrder s i) (Rule14 s i)
-unfolding outOfOrder functionStart functionEnd endIn
+unfolding outOfOrder
 rule14 s zero = always (λ set lt. absurd (omega arith))
 rule14 s (suc i) =
     let before : suc i - 1 ≡ i = omega arith in

@@ -14,18 +14,17 @@ use lib.Signed.{ltZ}
 use borrow.Author.Tests.{ltb-true, ltb-false, le-ltb}
 use Rattle.numbers.specs.Held.{Held}
 use Rattle.numbers.proofs.HeldLaws.{overlaps, follows}
-use Rattle.section.specs.Entry.{startOf}
 use Rattle.section.specs.Header.{layoutOf}
-use Rattle.section.specs.Meaning.{areaOf, shapeOf, entryIn}
-use Rattle.accept.specs.Checks.{firstBad, andThen, givenAt, thenTry, firstOf, entryFault, endIn, outOfOrder, turnFault, rowsBelow, sumFault, entriesVerdict}
+use Rattle.section.specs.Meaning.{areaOf, shapeOf, entryIn, functionStart}
+use Rattle.accept.specs.Checks.{firstBad, andThen, givenAt, thenTry, firstOf, entryFault, outOfOrder, turnFault, rowsBelow, sumFault, entriesVerdict}
 use Rattle.accept.specs.declared.verdict.Fault.the-variants.{Sound, Breaks}
 use Rattle.accept.specs.declared.verdict.Verdict.the-variants.{Refused}
-use Rattle.accept.proofs.FaultLaws.{first-next, first-stop}
+use Rattle.accept.proofs.FaultLaws.{left-goes-on, left-stops, left-ends}
 
 -- `low` holds where the entry before entry i ends, and is 0 before the first
 abbrev pub EndsAt : List ℕ → ℕ → ℕ → Type 0
 EndsAt s zero low = low ≡ 0
-EndsAt s (suc i) low = (h : ℕ) × Held (startOf (layoutOf s .relative) (entryIn s i)) h × (low ≡ h + entryIn s i .size)
+EndsAt s (suc i) low = (h : ℕ) × Held (functionStart s i) h × (low ≡ h + entryIn s i .size)
 
 -- i entries are behind; `rows` are their rows
 pub record Turned (s : List ℕ) (low rows i : ℕ) : Type 0 where
@@ -50,27 +49,21 @@ never true = refl
 never false = refl
 
 -- the test of 14, as the code makes it
-order-test : (s : List ℕ) (i start low : ℕ) → Held (startOf (layoutOf s .relative) (entryIn s i)) start → EndsAt s i low
+order-test : (s : List ℕ) (i start low : ℕ) → Held (functionStart s i) start → EndsAt s i low
     → (layoutOf s .sorted && ltb start low) ≡ outOfOrder s i
-unfolding outOfOrder endIn
+unfolding outOfOrder
 order-test s zero start low held end = rw (end, le-ltb start 0 (omega arith)) (never (layoutOf s .sorted))
 order-test s (suc i) start low held end =
     rw (end .2) (ap (λ test. layoutOf s .sorted && test) (sym (same-test (entryIn s i .size) _ held (end .1) refl)))
 
 -- a turn, as the code makes it
-pub turn-is : (s : List ℕ) (i start low : ℕ) → Held (startOf (layoutOf s .relative) (entryIn s i)) start → EndsAt s i low
+pub turn-is : (s : List ℕ) (i start low : ℕ) → Held (functionStart s i) start → EndsAt s i low
     → andThen (entryFault (areaOf s) (shapeOf s) (entryIn s i)) (firstBad ((layoutOf s .sorted && ltb start low, 14) ∷ [])) ≡ turnFault s i
 unfolding turnFault
 turn-is s i start low held end = rw (order-test s i start low held end)
 
-next-first : {s : List ℕ} {low rows i : ℕ} → Turned s low rows i → i < layoutOf s .functions
-    → firstOf (turnFault s) (suc (layoutOf s .functions - suc i)) i ≡ firstOf (turnFault s) (layoutOf s .functions) 0
-next-first {s} {i = i} t lt =
-    let left : suc (layoutOf s .functions - suc i) ≡ layoutOf s .functions - i = omega arith in
-    rw left (t .rest)
-
 pub turns-go-on : {s : List ℕ} {low rows i start : ℕ} → Turned s low rows i → i < layoutOf s .functions
-    → Held (startOf (layoutOf s .relative) (entryIn s i)) start → entryIn s i .rows < 0x1_0000_0000 → turnFault s i ≡ Sound
+    → Held (functionStart s i) start → entryIn s i .rows < 0x1_0000_0000 → turnFault s i ≡ Sound
     → Turned s (start + entryIn s i .size) (rows + entryIn s i .rows) (i + 1)
 unfolding rowsBelow
 turns-go-on {s} {low} {rows} {i} {start} t lt held small sound =
@@ -80,18 +73,15 @@ turns-go-on {s} {low} {rows} {i} {start} t lt held small sound =
       sum = rw (t .sum);
       small = omega (arith, t .small);
       within = lt;
-      rest = sym (first-next _ (layoutOf s .functions - suc i) i sound) ∙ next-first t lt;
+      rest = sym (left-goes-on _ (layoutOf s .functions) i lt sound) ∙ t .rest;
     })
 
 pub turns-stop : {s : List ℕ} {low rows i number : ℕ} → Turned s low rows i → i < layoutOf s .functions → turnFault s i ≡ Breaks number
     → Refused number i ≡ entriesVerdict s
 unfolding thenTry entriesVerdict
 turns-stop {s} {i = i} t lt breaks =
-    let whole = sym (first-stop _ (layoutOf s .functions - suc i) i breaks) ∙ next-first t lt in
-    ap (λ verdict. thenTry verdict (givenAt 0 (sumFault s))) whole
+    ap (λ verdict. thenTry verdict (givenAt 0 (sumFault s))) (sym (left-stops _ (layoutOf s .functions) i lt breaks) ∙ t .rest)
 
 pub turns-end : {s : List ℕ} {low rows i : ℕ} → Turned s low rows i → layoutOf s .functions ≤ i → givenAt 0 (sumFault s) ≡ entriesVerdict s
-unfolding firstOf thenTry entriesVerdict
-turns-end {s} {i = i} t le =
-    let none : layoutOf s .functions - i ≡ 0 = omega arith in
-    ap (λ verdict. thenTry verdict (givenAt 0 (sumFault s))) (rw none at (t .rest))
+unfolding thenTry entriesVerdict
+turns-end {s} {i = i} t le = ap (λ verdict. thenTry verdict (givenAt 0 (sumFault s))) (sym (left-ends _ (layoutOf s .functions) i le) ∙ t .rest)

@@ -3,7 +3,7 @@
 -- Assumes nothing.
 use mathlib.Core.Path.{_≡_, refl, sym, _∙_, ap}
 use mathlib.Core.List.{List, []}
-use Prim.Native.Nat.{ℕ, suc, _+_, _-_, _≤_, _<_}
+use Prim.Native.Nat.{ℕ, _+_, _-_, _≤_, _<_}
 use native.Mathlib.Nat.{sub-zero}
 use native.Mathlib.Numerals.{add-one}
 use native.Mathlib.Omega.{arith}
@@ -13,7 +13,7 @@ use Rattle.section.specs.Row.{rowLength, rowPlace, rowStart}
 use Rattle.section.specs.declared.shape.Shape.{Shape}
 use Rattle.accept.specs.Checks.{firstBad, faultOf, firstOf, rowTests, rowFault, lowOf, rowFaultIn, rowsFault}
 use Rattle.accept.specs.declared.verdict.Fault.the-variants.{Sound, Breaks}
-use Rattle.accept.proofs.FaultLaws.{first-next, first-stop}
+use Rattle.accept.proofs.FaultLaws.{left-goes-on, left-stops, left-ends}
 use Rattle.accept.proofs.RowLaws.{RowSound, row-sound}
 use Rattle.accept.proofs.TableLaws.{test-true, test-false, no-test, row-by-start}
 
@@ -48,13 +48,6 @@ here : {area : List ℕ} {shape : Shape} {code first count at low k : ℕ} → W
 unfolding rowFaultIn
 here w = rw (w .place, w .least)
 
--- what is left, with the next row first
-next-first : {area : List ℕ} {shape : Shape} {code first count at low k : ℕ} → Walked area shape code first count at low k → k < count
-    → firstOf (rowFaultIn area shape code first) (suc (count - suc k)) k ≡ firstOf (rowFaultIn area shape code first) count 0
-next-first {count = count} {k = k} w lt =
-    let left : suc (count - suc k) ≡ count - k = omega arith in
-    rw left (w .rest)
-
 pub walk-goes-on : {area : List ℕ} {shape : Shape} {code first count at low k : ℕ} → Walked area shape code first count at low k → k < count
     → rowFault area shape code at low ≡ Sound
     → Walked area shape code first count (at + rowLength area code at) (rowStart area (shape .order) code at + 1) (k + 1)
@@ -66,17 +59,15 @@ walk-goes-on {area} {shape} {code} {first} {count} {at} {low} {k} w lt sound =
       least = rw (w .place);
       inside = row-sound area shape code at low .0 sound .whole;
       within = lt;
-      rest = sym (first-next _ (count - suc k) k (here w ∙ sound)) ∙ next-first w lt;
+      rest = sym (left-goes-on _ count k lt (here w ∙ sound)) ∙ w .rest;
     })
 
 pub walk-stops : {area : List ℕ} {shape : Shape} {code first count at low k number : ℕ} → Walked area shape code first count at low k → k < count
     → rowFault area shape code at low ≡ Breaks number → Breaks number ≡ rowsFault area shape code first count
 unfolding rowsFault faultOf
-walk-stops {count = count} {k = k} w lt breaks = ap faultOf (sym (first-stop _ (count - suc k) k (here w ∙ breaks)) ∙ next-first w lt)
+walk-stops {count = count} {k = k} w lt breaks = ap faultOf (sym (left-stops _ count k lt (here w ∙ breaks)) ∙ w .rest)
 
 pub walk-ends : {area : List ℕ} {shape : Shape} {code first count at low k : ℕ} → Walked area shape code first count at low k → count ≤ k
     → Sound ≡ rowsFault area shape code first count
-unfolding rowsFault faultOf firstOf
-walk-ends {count = count} {k = k} w le =
-    let none : count - k ≡ 0 = omega arith in
-    ap faultOf (rw none at (w .rest))
+unfolding rowsFault faultOf
+walk-ends {count = count} {k = k} w le = ap faultOf (sym (left-ends _ count k le) ∙ w .rest)

@@ -4,15 +4,14 @@ use Prim.Native.Nat.{ℕ, zero, suc, _+_, _*_, _^_}
 use mathlib.Core.Bool.{Bool, true, false, not, _&&_, _||_}
 use mathlib.Core.List.{List, [], _∷_}
 use lib.Dec.{ltb, eqb}
-use lib.IntN.{ℤ, pos, _+ℤ_}
 use lib.ListN.{length}
 use lib.Signed.{leZ, ltZ}
 use Rattle.numbers.specs.declared.field.Order.{Order}
 use Rattle.numbers.specs.declared.field.Order.the-variants.{Little, Big}
 use Rattle.numbers.specs.declared.offset.Offset.{Offset}
-use Rattle.section.specs.Entry.{typeOf, repeats, startOf}
+use Rattle.section.specs.Entry.{typeOf, repeats}
 use Rattle.section.specs.Header.{bitOf, magicIn, orderOf, marksOf, sizesOf, layoutOf}
-use Rattle.section.specs.Meaning.{areaOf, shapeOf, entryIn}
+use Rattle.section.specs.Meaning.{areaOf, shapeOf, entryIn, functionStart, functionEnd}
 use Rattle.section.specs.Row.{infoOf, countOf, sizeOf, rowLength, rowPlace, rowStart}
 use Rattle.section.specs.Shape.{knownAbi, abiOf, shape}
 use Rattle.section.specs.declared.entry.Entry.{Entry}
@@ -143,14 +142,10 @@ entryFault area shape entry =
 
 -- ---- 14: an entry and the one before it
 
--- where function i ends: "start plus size"
-unfoldable pub endIn : List ℕ → ℕ → ℤ
-endIn s i = startOf (layoutOf s .relative) (entryIn s i) +ℤ pos (entryIn s i .size)
-
 -- "sorted flag set, and the effective start is below the previous entry's start plus size"
 unfoldable pub outOfOrder : List ℕ → ℕ → Bool
 outOfOrder s zero = false
-outOfOrder s (suc i) = layoutOf s .sorted && ltZ (startOf (layoutOf s .relative) (entryIn s (suc i))) (endIn s i)
+outOfOrder s (suc i) = layoutOf s .sorted && ltZ (functionStart s (suc i)) (functionEnd s i)
 
 -- "each entry in order is tried for 9, 10, 11 to 13 .., 14"
 unfoldable pub turnFault : List ℕ → ℕ → Fault

@@ -7,11 +7,11 @@ use lib.ListN.{length}
 use lib.Signed.{_≤ℤ_}
 use Rattle.section.specs.Entry.{typeOf}
 use Rattle.section.specs.Header.{orderOf, marksOf, sizesOf, layoutOf}
-use Rattle.section.specs.Meaning.{areaOf, shapeOf, entryIn, rowAt}
+use Rattle.section.specs.Meaning.{areaOf, shapeOf, entryIn, rowAt, functionStart, functionEnd}
 use Rattle.section.specs.Row.{Readable}
 use Rattle.section.specs.Shape.{knownAbi}
 use Rattle.accept.specs.Checks.{entryFault}
-use Rattle.accept.specs.Rules.{functionCount, rowCount, rowStartAt, functionStart, functionEnd, Rule15, HeaderObeys}
+use Rattle.accept.specs.Rules.{functionCount, rowCount, rowStartAt, Rule15, HeaderObeys}
 use Rattle.accept.specs.declared.verdict.Fault.the-variants.{Sound}
 
 pub record Reliable (s : List ℕ) : Type 0 where

@@ -5,14 +5,13 @@ use mathlib.Core.Bool.{true, false}
 use mathlib.Core.Logic.{_⊎_}
 use mathlib.Core.List.{List, sum}
 use Prim.Native.Nat.{ℕ, _+_, _-_, _*_, _^_, _≤_, _<_}
-use lib.IntN.{ℤ, pos, _+ℤ_}
 use lib.ListN.{length}
 use lib.Signed.{_≤ℤ_}
 use Rattle.numbers.specs.Field.{fieldOf}
 use Rattle.numbers.specs.declared.field.Order.the-variants.{Little, Big}
-use Rattle.section.specs.Entry.{typeOf, repeats, startOf}
+use Rattle.section.specs.Entry.{typeOf, repeats}
 use Rattle.section.specs.Header.{bitOf, orderOf, marksOf, sizesOf, layoutOf}
-use Rattle.section.specs.Meaning.{areaOf, shapeOf, entryIn, listed, rowAt}
+use Rattle.section.specs.Meaning.{areaOf, shapeOf, entryIn, listed, functionStart, functionEnd, rowAt}
 use Rattle.section.specs.Row.{infoOf, countOf, sizeOf, rowLength, rowStart}
 
 -- ---- the section's parts, in short
@@ -34,13 +33,6 @@ rowLengthAt s i k = rowLength (areaOf s) (typeOf (entryIn s i .info)) (rowAt s i
 
 unfoldable pub rowStartAt : List ℕ → ℕ → ℕ → ℕ
 rowStartAt s i k = rowStart (areaOf s) (shapeOf s .order) (typeOf (entryIn s i .info)) (rowAt s i k)
-
--- the effective start of function i, and where it ends
-unfoldable pub functionStart : List ℕ → ℕ → ℤ
-functionStart s i = startOf (layoutOf s .relative) (entryIn s i)
-
-unfoldable pub functionEnd : List ℕ → ℕ → ℤ
-functionEnd s i = functionStart s i +ℤ pos (entryIn s i .size)
 
 -- ---- the header
 

@@ -4,7 +4,7 @@
 use Prim.Native.Nat.{ℕ, zero, suc, _+_, _*_}
 use mathlib.Core.Bool.{true, false}
 use mathlib.Core.List.{List, [], _∷_}
-use lib.IntN.{ℤ}
+use lib.IntN.{ℤ, pos, _+ℤ_}
 use lib.ListN.{drop}
 use Rattle.section.specs.Entry.{entryOf, typeOf, repeats, startOf}
 use Rattle.section.specs.Header.{layoutOf, orderOf}
@@ -45,6 +45,13 @@ entryIn s i = entryOf s (orderOf s) (layoutOf s .table + 20 * i)
 unfoldable pub blockOf : Entry → Block
 blockOf entry = elim (repeats (entry .info)) [ true ↦ repeated (entry .repeat) | false ↦ plain ]
 
+-- the effective start of function i, and where it ends: "start plus size"
+abbrev pub functionStart : List ℕ → ℕ → ℤ
+functionStart s i = startOf (layoutOf s .relative) (entryIn s i)
+
+abbrev pub functionEnd : List ℕ → ℕ → ℤ
+functionEnd s i = functionStart s i +ℤ pos (entryIn s i .size)
+
 -- where row k of function i stands in the row area
 abbrev pub rowAt : List ℕ → ℕ → ℕ → ℕ
 rowAt s i k = rowPlace (areaOf s) (typeOf (entryIn s i .info)) (entryIn s i .first) k
@@ -56,7 +63,7 @@ rowIn area shape entry k = rowOf area shape (typeOf (entry .info)) (rowPlace are
 unfoldable pub functionIn : List ℕ → ℕ → Function
 functionIn s i =
     record {
-      start = startOf (layoutOf s .relative) (entryIn s i);
+      start = functionStart s i;
       size = entryIn s i .size;
       block = blockOf (entryIn s i);
       rows = listed (rowIn (areaOf s) (shapeOf s) (entryIn s i)) (entryIn s i .rows) 0;

@@ -6,9 +6,8 @@ use mathlib.Core.List.{List}
 use Prim.Native.Nat.{ℕ, _+_, _^_, _≤_, _<_}
 use Rattle.numbers.specs.declared.field.Order.{Order}
 use Rattle.numbers.specs.declared.offset.Offset.{Offset}
-use Rattle.section.specs.Entry.{typeOf, repeats, startOf}
-use Rattle.section.specs.Header.{layoutOf}
-use Rattle.section.specs.Meaning.{listed, areaOf, shapeOf, entryIn, rowAt}
+use Rattle.section.specs.Entry.{typeOf, repeats}
+use Rattle.section.specs.Meaning.{listed, areaOf, shapeOf, entryIn, functionStart, rowAt}
 use Rattle.section.specs.Row.{infoOf, baseOf, countOf, sizeOf, signedBit, rowStart, offsetIn}
 use Rattle.section.specs.declared.shape.Shape.{Shape}
 
@@ -39,7 +38,7 @@ AllowedRows s i = (k : ℕ) → k < entryIn s i .rows → Allowed (shapeOf s) (i
 -- "Two functions are the same when effective start, size, block kind, repeat size (PCMASK only) and the rows in order agree":
 -- function i of one section and function j of another, or of the same; both of one ABI, whose shape is that of the first
 pub record SameFunction (s : List ℕ) (i : ℕ) (t : List ℕ) (j : ℕ) : Type 0 where
-  pub start : startOf (layoutOf s .relative) (entryIn s i) ≡ startOf (layoutOf t .relative) (entryIn t j)
+  pub start : functionStart s i ≡ functionStart t j
   pub size : entryIn s i .size ≡ entryIn t j .size
   pub kind : repeats (entryIn s i .info) ≡ repeats (entryIn t j .info)
   pub repeat : repeats (entryIn s i .info) ≡ true → entryIn s i .repeat ≡ entryIn t j .repeat

@@ -7,9 +7,8 @@ use Prim.Native.Nat.{_+_, _-_, _*_, _≤_, _<_}
 use denote.Ref.{now}
 use lib.ListN.{length}
 use Rattle.numbers.specs.Held.{Held}
-use Rattle.section.specs.Entry.{startOf}
 use Rattle.section.specs.Header.{layoutOf}
-use Rattle.section.specs.Meaning.{entryIn}
+use Rattle.section.specs.Meaning.{entryIn, functionStart}
 use Rattle.accept.specs.Checks.{sumFault, turnFault}
 use Rattle.accept.specs.Rules.{HeaderObeys, functionCount}
 use Rattle.accept.proofs.AcceptedLaws.{few-functions, area-inside, entry-inside}
@@ -70,8 +69,8 @@ entry-is c =
 
 held : (c : tie.After-start-of Inv-loop μ-loop)
     → Held
-    (startOf (layoutOf (now (c .before .before .before .before .before .before .before .before .args .section)) .relative)
-    (entryIn (now (c .before .before .before .before .before .before .before .before .args .section)) (c .before .before .before .before .before .loop .i)))
+    (functionStart (now (c .before .before .before .before .before .before .before .before .args .section))
+    (c .before .before .before .before .before .loop .i))
     (c .start-of .result)
 held c =
     let start = c .before .before .before .before .before .before .before .before in
