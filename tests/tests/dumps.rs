@@ -168,6 +168,22 @@ fn the_unlinked_sorted_section_is_as_shown_once_it_is_not_called_sorted() {
     compare("amd64_r_o", &dump, &functions(&section));
 }
 
+// Each of its two functions has two rows of one start; with the second of each one higher, in the section and in what
+// the dump shows, the section is accepted and every row can be compared.
+#[test]
+fn the_section_with_rows_of_one_start_is_as_shown_once_they_are_told_apart() {
+    let mut section = corpus_section("amd64_twice_exe");
+    let mut dump = Dump::of("amd64_twice_exe").expect("a dump");
+    for (function, row, at, shown) in [(0, 2, 0x4a, "401010"), (1, 3, 0x5d, "401030")] {
+        assert_eq!(section[at], 0x10);
+        section[at] += 1;
+        let line = &mut dump.functions[function].rows[row];
+        assert!(line.contains(shown), "{line:?}");
+        *line = line.replace(shown, &format!("{}1", &shown[..5]));
+    }
+    compare("amd64_twice_exe", &dump, &functions(&section));
+}
+
 #[test]
 fn the_first_of_two_joined_sections_is_as_shown() {
     let section = corpus_section("llvm_amd64_two_exe");

@@ -10,7 +10,7 @@ use lib.ListN.{getD}
 use Rattle.section.specs.Entry.{typeOf}
 use Rattle.section.specs.Meaning.{areaOf, shapeOf, entryIn, rowAt}
 use Rattle.accept.specs.Checks.{headerTests, headerFault, entryTests, rowTests, rowFault, lowOf, rowFaultIn, rowsFault, entryFault, turnFault, sumFault, entriesVerdict, verdict}
-use Rattle.accept.specs.Given.{Rule, short, long, magic, version, flags, abi, fixed, sizes, entryInfo, repeatSize, rowsInside, rowInfo, rowStart, sorted, rowSum, numberOfRule, Reached, RowsReached, RowReached, Given}
+use Rattle.accept.specs.Given.{Rule, short, long, magic, version, flags, abi, fixed, sizes, entryInfo, repeatSize, rowsInside, rowInfo, rowsRising, sorted, rowSum, numberOfRule, Reached, RowsReached, RowReached, Given}
 use Rattle.accept.specs.Rules.{functionCount, rowCount, rowInfoAt, rowLengthAt, rowStartAt, Rule9, Rule10, Rule11First, Rule14, Rule15, HeaderObeys, RowObeys, EntryObeys, Obeys}
 use Rattle.accept.specs.declared.verdict.Fault.the-variants.{Sound, Breaks}
 use Rattle.accept.specs.declared.verdict.Verdict.the-variants.{Accepted, Refused}
@@ -41,12 +41,12 @@ header-exactly-when s =
     )
 
 -- a row's rules, over the section and over its row area
-row-same : (s : List ℕ) (i k : ℕ)
+row-rules : (s : List ℕ) (i k : ℕ)
     → RowSound (areaOf s) (shapeOf s) (typeOf (entryIn s i .info)) (rowAt s i k)
     (lowOf (areaOf s) (shapeOf s .order) (typeOf (entryIn s i .info)) (entryIn s i .first) k)
     ↔ RowObeys s i k
 unfolding rowInfoAt rowLengthAt rowStartAt
-row-same s i k =
+row-rules s i k =
     let rising = one-test (not-below _ _) (rule13 s i k) in (
       λ r. record { fixed = r .fixed; rule12 = r .info; offsets = r .whole; rule13 = rising .0 (r .above) },
       λ r. record { fixed = r .fixed; info = r .rule12; whole = r .offsets; above = rising .1 (r .rule13) },
@@ -55,7 +55,7 @@ row-same s i k =
 pub row-exactly-when : (s : List ℕ) (i k : ℕ)
     → (rowFaultIn (areaOf s) (shapeOf s) (typeOf (entryIn s i .info)) (entryIn s i .first) k ≡ Sound) ↔ RowObeys s i k
 unfolding rowFaultIn
-row-exactly-when s i k = Iff·trans (row-sound _ _ _ _ _) (row-same s i k)
+row-exactly-when s i k = Iff·trans (row-sound _ _ _ _ _) (row-rules s i k)
 
 -- 9 to 13
 pub entry-exactly-when : (s : List ℕ) (i : ℕ)
@@ -64,8 +64,8 @@ pub entry-exactly-when : (s : List ℕ) (i : ℕ)
 unfolding rowCount
 entry-exactly-when s i =
     Iff·trans (entry-sound (areaOf s) (shapeOf s) (entryIn s i)) (
-      λ h. (h .info, h .repeat, h .first, λ k lt. row-same s i k .0 (h .rows k lt)),
-      λ h. record { info = h .0; repeat = h .1; first = h .2; rows = λ k lt. row-same s i k .1 (h .3 k lt) },
+      λ h. (h .info, h .repeat, h .first, λ k lt. row-rules s i k .0 (h .rows k lt)),
+      λ h. record { info = h .0; repeat = h .1; first = h .2; rows = λ k lt. row-rules s i k .1 (h .3 k lt) },
     )
 
 -- 9 to 14
@@ -163,7 +163,7 @@ given-refused s rowsInside i (inl g) = entry-given s 11 i (g .0) (inr (g .1, inr
 given-refused s rowsInside i (inr g) =
     row-given s 11 i (g .0) (g .1) (⊎-elim (λ bad. inl (refl, bad)) (λ r. inr (r .0, inr (r .1, inl (refl, r .2)))) (g .2))
 given-refused s rowInfo i g = row-given s 12 i (g .0) (g .1) (inr (g .2, inl (refl, g .3)))
-given-refused s rowStart i g = row-given s 13 i (g .0) (g .1) (inr (g .2, inr (g .3, inr (g .4, inl (refl, g .5)))))
+given-refused s rowsRising i g = row-given s 13 i (g .0) (g .1) (inr (g .2, inr (g .3, inr (g .4, inl (refl, g .5)))))
 given-refused s sorted i g = order-given s i (g .0) (g .1) (g .2)
 given-refused s rowSum i g = sum-given s i (g .0) (g .1) (g .2) (g .3)
 
@@ -177,7 +177,7 @@ row-decided s i k reached =
     by-test (rule11-fixed s i k) (λ bad. inr (rowsInside, i, inr (k, reached, inl bad))) λ fixed.
     by-test (rule12 s i k) (λ bad. inr (rowInfo, i, (k, reached, fixed, bad))) λ r12.
     by-test (rule11-offsets s i k) (λ bad. inr (rowsInside, i, inr (k, reached, inr (fixed, r12, bad)))) λ offsets.
-    by-test (rule13 s i k) (λ bad. inr (rowStart, i, (k, reached, fixed, r12, offsets, bad))) λ r13.
+    by-test (rule13 s i k) (λ bad. inr (rowsRising, i, (k, reached, fixed, r12, offsets, bad))) λ r13.
     inl (record { fixed = fixed; rule12 = r12; offsets = offsets; rule13 = r13 })
 
 entry-decided : (s : List ℕ) (i : ℕ) → Reached s i → EntryObeys s i ⊎ Refusal s
@@ -227,7 +227,7 @@ refused-by-a-rule s number i e =
 -- the rules by their numbers, from 1 on
 rules : List Rule
 rules =
-    short ∷ long ∷ magic ∷ version ∷ flags ∷ abi ∷ fixed ∷ sizes ∷ entryInfo ∷ repeatSize ∷ rowsInside ∷ rowInfo ∷ rowStart ∷ sorted ∷ rowSum ∷ []
+    short ∷ long ∷ magic ∷ version ∷ flags ∷ abi ∷ fixed ∷ sizes ∷ entryInfo ∷ repeatSize ∷ rowsInside ∷ rowInfo ∷ rowsRising ∷ sorted ∷ rowSum ∷ []
 
 abbrev ruleOf : ℕ → Rule
 unfolding rules
@@ -247,7 +247,7 @@ at-its-number entryInfo = refl
 at-its-number repeatSize = refl
 at-its-number rowsInside = refl
 at-its-number rowInfo = refl
-at-its-number rowStart = refl
+at-its-number rowsRising = refl
 at-its-number sorted = refl
 at-its-number rowSum = refl
 

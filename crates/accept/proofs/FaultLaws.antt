@@ -13,6 +13,7 @@ use Rattle.accept.specs.declared.verdict.Fault.the-variants.{Sound, Brea
 use Rattle.accept.specs.declared.verdict.Verdict.{Verdict}
 use Rattle.accept.specs.declared.verdict.Verdict.the-variants.{Accepted, Refused}
 use Rattle.accept.proofs.Decides.{Decides, passes, fails, by-test}
+use Rattle.accept.proofs.TableLaws.{test-true, test-false}
 
 pub sound-or-breaks : {number : ℕ} → Sound ≡ Breaks number → ⊥
 sound-or-breaks e = let z : _≡_ {A = ℕ} 0 1 = cc in omega arith
@@ -42,13 +43,11 @@ FirstBroken (test ∷ tests) [] number = ⊥
 FirstBroken (test ∷ tests) (P ∷ rules) number = ((number ≡ test .1) × ¬ P) ⊎ (P × FirstBroken tests rules number)
 
 module _ {test : Bool} {P : Type 0} (number : ℕ) (tests : List (Bool × ℕ)) (d : Decides test P) where
-  pub table-stop : ¬ P → firstBad ((test, number) ∷ tests) ≡ Breaks number
-  unfolding firstBad
-  table-stop bad = rw (fails d bad)
+  table-stop : ¬ P → firstBad ((test, number) ∷ tests) ≡ Breaks number
+  table-stop bad = test-true number tests (fails d bad)
 
-  pub table-next : P → firstBad ((test, number) ∷ tests) ≡ firstBad tests
-  unfolding firstBad
-  table-next good = rw (passes d good)
+  table-next : P → firstBad ((test, number) ∷ tests) ≡ firstBad tests
+  table-next good = test-false number tests (passes d good)
 
 pub table-sound : {tests : List (Bool × ℕ)} {rules : List (Type 0)} → Table tests rules → (firstBad tests ≡ Sound) ↔ AllHold rules
 unfolding firstBad

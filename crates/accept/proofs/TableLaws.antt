@@ -11,6 +11,7 @@ use Rattle.section.specs.Row.{rowStart}
 use Rattle.section.specs.declared.entry.Entry.{Entry}
 use Rattle.section.specs.declared.shape.Shape.{Shape}
 use Rattle.accept.specs.Checks.{firstBad, andThen, entryTests, rowTests, rowFault, rowsFault, entryFault}
+use Rattle.accept.specs.declared.verdict.Fault.{Fault}
 use Rattle.accept.specs.declared.verdict.Fault.the-variants.{Sound, Breaks}
 
 pub test-true : {test : Bool} (number : ℕ) (tests : List (Bool × ℕ)) → test ≡ true → firstBad ((test, number) ∷ tests) ≡ Breaks number
@@ -44,15 +45,19 @@ in-parts (suc n) [] = refl
 in-parts (suc n) ((true, number) ∷ tests) = refl
 in-parts (suc n) ((false, number) ∷ tests) = in-parts n tests
 
--- a row that the first three lines of its table refuse, and one that its start decides
+-- a row, by what the first three lines of its table come to: they refuse it, or its start decides
+row-after : (area : List ℕ) (shape : Shape) (code at low : ℕ) {fault : Fault} → firstBad (take 3 (rowTests area shape code at 0)) ≡ fault
+    → rowFault area shape code at low ≡ andThen fault (firstBad ((ltb (rowStart area (shape .order) code at) low, 13) ∷ []))
+unfolding rowTests rowFault
+row-after area shape code at low e =
+    in-parts 3 (rowTests area shape code at low) ∙ ap (λ fault. andThen fault (firstBad (drop 3 (rowTests area shape code at low)))) e
+
 pub row-refused : (area : List ℕ) (shape : Shape) (code at low : ℕ) {number : ℕ} → firstBad (take 3 (rowTests area shape code at 0)) ≡ Breaks number
     → rowFault area shape code at low ≡ Breaks number
-unfolding andThen rowTests rowFault
-row-refused area shape code at low e =
-    in-parts 3 (rowTests area shape code at low) ∙ ap (λ fault. andThen fault (firstBad (drop 3 (rowTests area shape code at low)))) e
+unfolding andThen
+row-refused area shape code at low e = row-after area shape code at low e
 
 pub row-by-start : (area : List ℕ) (shape : Shape) (code at low : ℕ) → firstBad (take 3 (rowTests area shape code at 0)) ≡ Sound
     → rowFault area shape code at low ≡ firstBad ((ltb (rowStart area (shape .order) code at) low, 13) ∷ [])
-unfolding andThen rowTests rowFault
-row-by-start area shape code at low e =
-    in-parts 3 (rowTests area shape code at low) ∙ ap (λ fault. andThen fault (firstBad (drop 3 (rowTests area shape code at low)))) e
+unfolding andThen
+row-by-start area shape code at low e = row-after area shape code at low e

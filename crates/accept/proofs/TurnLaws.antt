@@ -44,15 +44,15 @@ same-test : {later earlier : ℤ} {h i : ℕ} (size : ℕ) (test : Bool) → Hel
 same-test {h = h} {i = i} size true held held′ e = overlaps size held held′ (ltb-true h (i + size) e)
 same-test {h = h} {i = i} size false held held′ e = follows size held held′ (ltb-false h (i + size) e)
 
-never : (test : Bool) → (test && false) ≡ false
-never true = refl
-never false = refl
+and-false : (test : Bool) → (test && false) ≡ false
+and-false true = refl
+and-false false = refl
 
 -- the test of 14, as the code makes it
 order-test : (s : List ℕ) (i start low : ℕ) → Held (functionStart s i) start → EndsAt s i low
     → (layoutOf s .sorted && ltb start low) ≡ outOfOrder s i
 unfolding outOfOrder
-order-test s zero start low held end = rw (end, le-ltb start 0 (omega arith)) (never (layoutOf s .sorted))
+order-test s zero start low held end = rw (end, le-ltb start 0 (omega arith)) (and-false (layoutOf s .sorted))
 order-test s (suc i) start low held end =
     rw (end .2) (ap (λ test. layoutOf s .sorted && test) (sym (same-test (entryIn s i .size) _ held (end .1) refl)))
 

@@ -19,7 +19,7 @@ pub data Rule : Type 0 where
   repeatSize : Rule
   rowsInside : Rule
   rowInfo : Rule
-  rowStart : Rule
+  rowsRising : Rule
   sorted : Rule
   rowSum : Rule
 
@@ -37,7 +37,7 @@ numberOfRule entryInfo = 9
 numberOfRule repeatSize = 10
 numberOfRule rowsInside = 11
 numberOfRule rowInfo = 12
-numberOfRule rowStart = 13
+numberOfRule rowsRising = 13
 numberOfRule sorted = 14
 numberOfRule rowSum = 15
 
@@ -79,6 +79,6 @@ Given s repeatSize i = Reached s i × Rule9 s i × ¬ Rule10 s i
 Given s rowsInside i =
     (Reached s i × Rule9 s i × Rule10 s i × ¬ Rule11First s i) ⊎ ((k : ℕ) × RowReached s i k × RowEndsPast s i k)
 Given s rowInfo i = (k : ℕ) × RowReached s i k × Rule11Fixed s i k × ¬ Rule12 s i k
-Given s rowStart i = (k : ℕ) × RowReached s i k × Rule11Fixed s i k × Rule12 s i k × Rule11Offsets s i k × ¬ Rule13 s i k
+Given s rowsRising i = (k : ℕ) × RowReached s i k × Rule11Fixed s i k × Rule12 s i k × Rule11Offsets s i k × ¬ Rule13 s i k
 Given s sorted i = RowsReached s i × ((k : ℕ) → k < rowCount s i → RowObeys s i k) × ¬ Rule14 s i
 Given s rowSum i = (i ≡ 0) × HeaderObeys s × ((j : ℕ) → j < functionCount s → EntryObeys s j) × ¬ Rule15 s
