@@ -67,7 +67,7 @@ rows-rising obeys i j k lt less inside = entry-rising _ _ _ (fault-free obeys i 
 
 -- ---- sorted functions
 
-pass-on : {a b c : ℤ} → a ≤ℤ b → b ≤ℤ c → a ≤ℤ c
+pub pass-on : {a b c : ℤ} → a ≤ℤ b → b ≤ℤ c → a ≤ℤ c
 pass-on {a} {b} {c} p q = by-less (ltZ c a) refl
   where
     by-less : (less : Bool) → ltZ c a ≡ less → a ≤ℤ c
@@ -77,7 +77,7 @@ pass-on {a} {b} {c} p q = by-less (ltZ c a) refl
 grown : {z : ℤ} {a b : ℕ} → Diff z a b → (size : ℕ) → z ≤ℤ (z +ℤ pos size)
 grown {z} {a} {b} h size = leZ-yes (rw (diff-le h (diff-add h (diff-pos size)), le-leb (a + (b + 0)) (a + size + b) (omega arith)) tt)
 
-no-less : (z : ℤ) (size : ℕ) → z ≤ℤ (z +ℤ pos size)
+pub no-less : (z : ℤ) (size : ℕ) → z ≤ℤ (z +ℤ pos size)
 no-less (pos k) size = grown (diff-pos k) size
 no-less (negsuc k) size = grown {a = 0} {b = suc k} (record { apart = omega arith }) size
 

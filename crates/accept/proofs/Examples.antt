@@ -2,32 +2,20 @@
 -- by one changed byte each, what section S means, and a wrong order of the checks, which answers otherwise.
 -- Assumes nothing.
 use mathlib.Core.Path.{_≡_, refl, sym, _∙_}
-use mathlib.Core.Bool.{false}
 use mathlib.Core.List.{List, [], _∷_, map}
 use Prim.Native.Nat.{ℕ}
 use native.Mathlib.Omega.{arith}
-use lib.IntN.{pos, negsuc}
+use lib.IntN.{pos}
 use lib.ListN.{take, set}
 use Rattle.section.specs.Header.{layoutOf}
 use Rattle.section.specs.Meaning.{Function, plain, areaOf, shapeOf, entryIn, functionsOf}
-use Rattle.section.specs.declared.row.Base.the-variants.{Fp, Sp}
-use Rattle.section.specs.declared.row.Place.the-variants.{Register, AtOffset}
-use Rattle.section.specs.declared.row.Row.{Row}
+use Rattle.section.specs.SectionS.{sectionS, overlappingS, unsortedS, atEntry, withFrame}
 use Rattle.accept.specs.Checks.{firstBad, andThen, givenAt, thenTry, firstOf, headerFault, entryFault, outOfOrder, turnFault, sumFault, entriesVerdict, verdict}
 use Rattle.accept.specs.Opened.{acceptOpened}
 use Rattle.accept.specs.declared.verdict.Fault.{Fault}
 use Rattle.accept.specs.declared.verdict.Verdict.{Verdict}
 use Rattle.accept.specs.declared.verdict.Verdict.the-variants.{Accepted, Refused}
 use Rattle.accept.proofs.FaultLaws.{accepted-or-refused}
-
--- "Section S, 78 bytes, AMD64, sorted, whole"
-sectionS : List ℕ
-sectionS =
-    0xe2 ∷ 0xde ∷ 0x02 ∷ 0x01 ∷ 0x03 ∷ 0x00 ∷ 0xf8 ∷ 0x00 ∷ 0x02 ∷ 0x00 ∷ 0x00 ∷ 0x00 ∷ 0x03 ∷ 0x00 ∷ 0x00 ∷ 0x00
-    ∷ 0x0a ∷ 0x00 ∷ 0x00 ∷ 0x00 ∷ 0x00 ∷ 0x00 ∷ 0x00 ∷ 0x00 ∷ 0x28 ∷ 0x00 ∷ 0x00 ∷ 0x00
-    ∷ 0x00 ∷ 0x10 ∷ 0x00 ∷ 0x00 ∷ 0x20 ∷ 0x00 ∷ 0x00 ∷ 0x00 ∷ 0x00 ∷ 0x00 ∷ 0x00 ∷ 0x00 ∷ 0x02 ∷ 0x00 ∷ 0x00 ∷ 0x00 ∷ 0x00 ∷ 0x00 ∷ 0x00 ∷ 0x00
-    ∷ 0x40 ∷ 0x10 ∷ 0x00 ∷ 0x00 ∷ 0x10 ∷ 0x00 ∷ 0x00 ∷ 0x00 ∷ 0x07 ∷ 0x00 ∷ 0x00 ∷ 0x00 ∷ 0x01 ∷ 0x00 ∷ 0x00 ∷ 0x00 ∷ 0x00 ∷ 0x00 ∷ 0x00 ∷ 0x00
-    ∷ 0x00 ∷ 0x03 ∷ 0x08 ∷ 0x04 ∷ 0x04 ∷ 0x10 ∷ 0xf0 ∷ 0x00 ∷ 0x03 ∷ 0x08 ∷ []
 
 K1 : verdict sectionS ≡ Accepted
 unfolding acceptOpened sectionS
@@ -41,17 +29,12 @@ K3 : verdict (take 27 sectionS) ≡ Refused 1 0
 unfolding acceptOpened sectionS
 K3 = refl
 
--- "S with second start 0x101f"
-overlapping : List ℕ
-overlapping = set sectionS 48 0x1f
-
-K8 : verdict overlapping ≡ Refused 14 1
-unfolding acceptOpened sectionS overlapping
+K8 : verdict overlappingS ≡ Refused 14 1
+unfolding acceptOpened sectionS overlappingS
 K8 = refl
 
--- "the same with flags 00"
-K9 : verdict (set overlapping 3 0x00) ≡ Accepted
-unfolding acceptOpened sectionS overlapping
+K9 : verdict unsortedS ≡ Accepted
+unfolding acceptOpened sectionS overlappingS unsortedS
 K9 = refl
 
 -- a checker that refuses everything, and one that accepts everything, is not ours
@@ -90,22 +73,6 @@ relative = refl
 
 -- ---- what S means
 
--- CFA is SP + 8, and RA lies at CFA - 8
-atEntry : Row
-atEntry = record { start = 0; base = Sp; cfa = record { by = pos 8 }; ra = AtOffset (record { by = negsuc 7 }); fp = Register; signed = false }
-
--- CFA is FP + 16, and FP lies at CFA - 16
-withFrame : Row
-withFrame =
-    record {
-      start = 4;
-      base = Fp;
-      cfa = record { by = pos 16 };
-      ra = AtOffset (record { by = negsuc 7 });
-      fp = AtOffset (record { by = negsuc 15 });
-      signed = false;
-    }
-
 functions : List Function
 functions =
     record { start = pos 0x1000; size = 0x20; block = plain; rows = atEntry ∷ withFrame ∷ [] }
@@ -132,12 +99,12 @@ early s i = andThen (firstBad ((outOfOrder s i, 14) ∷ [])) (entryFault (areaOf
 
 -- function 1 begins before function 0 ends, and its two rows start at 4 and at 0
 bothBroken : List ℕ
-bothBroken = set (set overlapping 56 0x03) 60 0x02
+bothBroken = set (set overlappingS 56 0x03) 60 0x02
 
 rows-first : verdict bothBroken ≡ Refused 13 1
-unfolding acceptOpened sectionS overlapping bothBroken
+unfolding acceptOpened sectionS overlappingS bothBroken
 rows-first = refl
 
 early-differs : ¬ (verdictBy early bothBroken ≡ verdict bothBroken)
-unfolding acceptOpened sectionS overlapping bothBroken verdictBy early
+unfolding acceptOpened sectionS overlappingS bothBroken verdictBy early
 early-differs e = let z : _≡_ {A = ℕ} 13 14 = cc in omega arith

@@ -4,4 +4,5 @@ pub mod Meaning
 pub mod Opened
 pub mod Row
 pub mod Same
+pub mod SectionS
 pub mod Shape

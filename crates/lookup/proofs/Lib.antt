@@ -1,0 +1,15 @@
+pub mod CaseLaws
+pub mod CoveringLaws
+pub mod EntryRows
+pub mod Exactly
+mod Examples
+pub mod HalvingLaws
+pub mod HalvingTurns
+pub mod LandedLaws
+pub mod LastRowLaws
+pub mod LookLaws
+pub mod OffsetWithinLaws
+pub mod PassedLaws
+pub mod ScanLaws
+pub mod SearchLaws
+pub mod TableLaws

@@ -1,0 +1,17 @@
+-- `covering::covers_at` compares with the start and the size of entry i.
+-- Assumes nothing.
+use borrow.Author.Needs.{needs}
+use Rattle.section.specs.Meaning.{functionIn}
+use Rattle.lookup.specs.Covering.{covers}
+use Rattle.lookup.proofs.covering.covers_at.Statement.{statement}
+use Rattle.lookup.proofs.covering.covers_at.Tie as tie
+
+returns : tie.Need-returns
+unfolding covers functionIn
+returns c z near =
+    let entry = c .before .before in
+    let pre = entry .before .before .pre in
+    rw (pre .0 .header .layout-is, entry .entry-in .ensures) at (c .is-within .ensures _ z (c .before .start-of .ensures .1) near)
+
+pub covers-at-spec : {M : Type 1} → statement M
+covers-at-spec = tie.close (tie.spec (λ c κs. search needs) (λ c κs. search needs) (λ c κs. search needs) returns)

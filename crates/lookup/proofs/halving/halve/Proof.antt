@@ -1,0 +1,66 @@
+-- `halving::halve` follows the halving rule turn by turn: what is left of the halving gives the whole landing.
+-- Assumes nothing.
+use borrow.Author.Needs.{needs}
+use native.Mathlib.Numerals.{add-one}
+use native.Mathlib.Omega.{arith}
+use mathlib.Core.Path.{sym, _∙_}
+use Prim.Native.Nat.{_+_, _-_, _/_}
+use Rattle.lookup.proofs.HalvingTurns.{Halved, halving-begins, middle-within, goes-up, goes-down, halving-ends}
+use Rattle.lookup.proofs.halving.halve.Statement.{statement}
+use Rattle.lookup.proofs.halving.halve.Tie as tie
+
+abbrev Inv-loop : tie.InvT-loop
+Inv-loop section layout order d low₀ high₀ compared₀ low high compared = Halved section (layout .functions) d low high compared
+
+abbrev μ-loop : tie.MeasureT-loop
+μ-loop section layout order d low₀ high₀ compared₀ low high compared = high - low
+
+loop-holds : tie.Need-loop-holds Inv-loop μ-loop
+loop-holds c = halving-begins _ (c .before .pre .header)
+
+add-compared : tie.Need-add-compared Inv-loop μ-loop
+add-compared c = let loop = c .before .loop in omega (arith, loop .inv .spent, loop .inv .few, c .loop-test .taken)
+
+starts-at-most-requires : tie.Need-starts-at-most-requires Inv-loop μ-loop
+starts-at-most-requires c κs = (c .before .before .before .pre, middle-within (c .before .loop .inv) (c .loop-test .taken))
+
+add-low : tie.Need-add-low Inv-loop μ-loop
+add-low c =
+    let turn = c .before .before in
+    omega (arith, middle-within (turn .before .loop .inv) (turn .loop-test .taken), turn .before .loop .inv .few)
+
+loop-again : tie.Need-loop-again Inv-loop μ-loop
+loop-again c =
+    let turn = c .before .before in
+    let loop = turn .before .loop in
+    rw (add-one (loop .low + (loop .high - loop .low) / 2), add-one (loop .compared))
+    (goes-up (turn .before .loop .inv) (turn .loop-test .taken) λ z near. sym (c .before .starts-at-most .ensures z near) ∙ c .if1 .taken)
+
+loop-again-2 : tie.Need-loop-again-2 Inv-loop μ-loop
+loop-again-2 c =
+    let turn = c .before .before in
+    rw (add-one (turn .before .loop .compared))
+    (goes-down (turn .before .loop .inv) (turn .loop-test .taken) λ z near. sym (c .before .starts-at-most .ensures z near) ∙ c .if1 .left)
+
+returns : tie.Need-returns Inv-loop μ-loop
+returns c =
+    let loop = c .before .loop in
+    (halving-ends (loop .inv) (c .loop-test .left), omega (arith, loop .inv .ordered, loop .inv .within))
+
+pub halve-spec : {M : Type 1} → statement M
+halve-spec =
+    tie.close
+    (tie.spec
+    Inv-loop
+    μ-loop
+    loop-holds
+    (λ c. search needs)
+    (λ c. search needs)
+    add-compared
+    starts-at-most-requires
+    add-low
+    (λ c. search needs)
+    loop-again
+    (λ c. search needs)
+    loop-again-2
+    returns)

@@ -1,0 +1,76 @@
+-- How the covering function is found: a section that is not sorted is scanned, a sorted one is halved. It is defined on any
+-- list of functions; on an accepted section it finds what `covering` says (`search-finds-covering`).
+use Prim.Native.Nat.{ℕ, zero, suc, _-_, _<_}
+use mathlib.Core.Path.{_≡_}
+use mathlib.Core.Bool.{Bool, true, false}
+use mathlib.Core.List.{List}
+use lib.Dec.{leb}
+use lib.IntN.{ℤ}
+use lib.ListN.{getD}
+use Rattle.numbers.specs.declared.field.Order.{Order}
+use Rattle.section.specs.Header.{layoutOf, orderOf}
+use Rattle.section.specs.Meaning.{Function, functionIn}
+use Rattle.section.specs.Row.{rowPlace, rowStart}
+use Rattle.section.specs.declared.header.Layout.{Layout}
+use Rattle.accept.specs.Checks.{headerFault, verdict}
+use Rattle.accept.specs.declared.verdict.Fault.the-variants.{Sound}
+use Rattle.accept.specs.declared.verdict.Verdict.the-variants.{Accepted}
+use Rattle.lookup.specs.Covering.{covers, covering, coverOf}
+use Rattle.lookup.specs.Halving.{noFunction, landing, compared}
+use Rattle.lookup.specs.declared.covering.Cover.{Cover}
+use Rattle.lookup.specs.declared.covering.Cover.the-variants.{Nobody, One}
+use Rattle.lookup.specs.declared.covering.Search.{Search}
+use Rattle.lookup.specs.declared.rows.Stop.{Stop}
+
+-- what a function asks that works on a section with a sound header: the values beside it are the section's own
+pub record HeaderOf (s : List ℕ) (layout : Layout) : Type 0 where
+  pub sound : headerFault s ≡ Sound
+  pub layout-is : layout ≡ layoutOf s
+
+-- the same, with the section's byte order beside it
+pub record TableOf (s : List ℕ) (layout : Layout) (order : Order) : Type 0 where
+  pub header : HeaderOf s layout
+  pub order-is : order ≡ orderOf s
+
+-- what a function asks that works on a section that was checked before
+pub record AcceptedOf (s : List ℕ) (layout : Layout) : Type 0 where
+  pub accepted : verdict s ≡ Accepted
+  pub layout-is : layout ≡ layoutOf s
+
+-- what is asked where the row of function i is looked for: d is within it
+pub record RowAsked (s : List ℕ) (layout : Layout) (i : ℕ) (d : ℤ) : Type 0 where
+  pub section : AcceptedOf s layout
+  pub inside : i < layout .functions
+  pub within : covers d (functionIn s i) ≡ true
+
+-- ---- functions
+
+-- the first index, of `left` from i on, of which a test is true, and one past the last where there is none
+unfoldable pub firstWhere : (ℕ → Bool) → ℕ → ℕ → ℕ
+firstWhere test zero i = i
+firstWhere test (suc left) i = elim (test i) [ true ↦ i | false ↦ firstWhere test left (suc i) ]
+
+-- whether the function landed on, the one before `low`, covers
+unfoldable pub landedOn : ℤ → List Function → ℕ → Cover
+landedOn d functions zero = Nobody
+landedOn d functions (suc i) = elim (covers d (getD functions i noFunction)) [ true ↦ One i | false ↦ Nobody ]
+
+unfoldable pub coverBy : Bool → ℤ → List Function → Cover
+coverBy sorted d functions =
+    elim sorted [ true ↦ landedOn d functions (landing d functions .low) | false ↦ coverOf (covering d functions) ]
+
+unfoldable pub searchOf : Bool → ℤ → List Function → Search
+searchOf sorted d functions = record { cover = coverBy sorted d functions; compared = compared sorted d functions }
+
+-- ---- rows
+
+-- how many rows, from number k on, start at or below o before the first that does not
+unfoldable pub leading : (ℕ → ℕ) → ℕ → ℕ → ℕ → ℕ
+leading start o zero k = k
+leading start o (suc left) k = elim (leb (start k) o) [ true ↦ leading start o left (suc k) | false ↦ k ]
+
+-- where the scan of `count` rows stops: how many start at or below o, and the place of the last of them
+unfoldable pub stopOf : List ℕ → Order → ℕ → ℕ → ℕ → ℕ → Stop
+stopOf area order code first count o =
+    let rows = leading (λ k. rowStart area order code (rowPlace area code first k)) o count 0 in
+    record { rows = rows; place = rowPlace area code first (rows - 1) }
