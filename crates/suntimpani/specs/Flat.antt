@@ -1,8 +1,69 @@
 -- Each answer as the flat struct that C sees. Fields without meaning in a case are 0.
+use Prim.Native.Nat.{ℕ}
+use mathlib.Core.Bool.{Bool, true, false}
+use lib.IntN.{pos}
+use lib.ListN.{getD}
+use Rattle.numbers.specs.declared.offset.Offset.{Offset}
+use Rattle.section.specs.declared.row.Base.{Base}
+use Rattle.section.specs.declared.row.Base.the-variants.{Fp, Sp}
+use Rattle.section.specs.declared.row.Place.{Place}
+use Rattle.section.specs.declared.row.Place.the-variants.{Register, AtOffset}
+use Rattle.section.specs.declared.row.Row.{Row}
 use Rattle.accept.specs.Checks.{verdictNumber, verdictIndex}
 use Rattle.accept.specs.declared.verdict.Verdict.{Verdict}
-use Rattle.suntimpani.specs.declared.Checked.{Checked}
+use Rattle.lookup.specs.Answers.{outcomeNumber, outcomeIndexes, outcomeRow}
+use Rattle.lookup.specs.declared.answer.Answer.{Answer}
+use Rattle.suntimpani.specs.declared.flat.Checked.{Checked}
+use Rattle.suntimpani.specs.declared.flat.Looked.{Looked}
 
 -- number 0 is accepted
 unfoldable pub flatVerdict : Verdict → Checked
 flatVerdict verdict = record { number = verdictNumber verdict; index = verdictIndex verdict }
+
+-- ---- a row
+
+unfoldable pub baseNumber : Base → ℕ
+baseNumber Fp = 0
+baseNumber Sp = 1
+
+-- "in a register or at an offset from CFA"
+unfoldable pub placeKind : Place → ℕ
+placeKind Register = 0
+placeKind (AtOffset offset) = 1
+
+unfoldable pub placeOffset : Place → Offset
+placeOffset Register = record { by = pos 0 }
+placeOffset (AtOffset offset) = offset
+
+unfoldable pub flag : Bool → ℕ
+flag set = elim set [ true ↦ 1 | false ↦ 0 ]
+
+-- what stands in the fields of a row where none was found
+unfoldable pub noRow : Row
+noRow = record { start = 0; base = Fp; cfa = record { by = pos 0 }; ra = Register; fp = Register; signed = false }
+
+unfoldable pub flatRow : ℕ → ℕ → ℕ → ℕ → ℕ → Row → Looked
+flatRow number function second compared row decoded =
+    record {
+      number = number;
+      function = function;
+      second = second;
+      compared = compared;
+      row = row;
+      start = decoded .start;
+      base = baseNumber (decoded .base);
+      cfa = decoded .cfa .by;
+      raplace = placeKind (decoded .ra);
+      ra = placeOffset (decoded .ra) .by;
+      fpplace = placeKind (decoded .fp);
+      fp = placeOffset (decoded .fp) .by;
+      signedra = flag (decoded .signed);
+    }
+
+-- ---- a lookup's answer: its number, its indexes, its count, and its row with its number
+
+unfoldable pub flatAnswer : Answer → Looked
+flatAnswer answer =
+    let indexes = outcomeIndexes (answer .outcome) in
+    let found = getD (outcomeRow (answer .outcome)) 0 (0, noRow) in
+    flatRow (outcomeNumber (answer .outcome)) (getD indexes 0 0) (getD indexes 1 0) (answer .compared) (found .0) (found .1)

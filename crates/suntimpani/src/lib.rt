@@ -1,35 +1,27 @@
 // The C surface, a static library: flat answers by value, nothing allocated, nothing kept.
+pub mod flat;
+
+use crate::flat::Checked;
+use crate::flat::Looked;
+use crate::flat::flat_answer;
+use crate::flat::flat_verdict;
 use accept::section_check::check;
-use accept::verdict::Verdict;
+use lookup::look::lookup;
 ghost use mathlib.Core.Path.{_≡_};
 ghost use Rattle.accept.specs.Checks.{verdict};
-ghost use Rattle.suntimpani.specs.Flat.{flatVerdict};
-
-// A verdict: number 0 is accepted, else the number and the entry's index.
-#[repr(C)]
-pub struct Checked {
-    pub number: u64,
-    pub index: u64,
-}
-
-fn flat_verdict(answer: Verdict) -> Checked
-    ensures { λ r. ⌜ r ≡ flatVerdict answer ⌝ }
-{
-    match answer {
-        Verdict::Accepted => Checked {
-            number: 0,
-            index: 0,
-        },
-        Verdict::Refused { number, index } => Checked {
-            number: number,
-            index: index,
-        },
-    }
-}
+ghost use Rattle.lookup.specs.Answers.{lookupOf};
+ghost use Rattle.suntimpani.specs.Flat.{flatVerdict, flatAnswer};
 
 #[no_mangle]
 pub extern "C" fn suntimpani_check(section: &[u8]) -> Checked
     ensures { λ r. ⌜ r ≡ flatVerdict (verdict (now (section .entry))) ⌝ }
 {
     flat_verdict(check(section))
+}
+
+#[no_mangle]
+pub extern "C" fn suntimpani_lookup(section: &[u8], address: u64, pc: u64) -> Looked
+    ensures { λ r. ⌜ r ≡ flatAnswer (lookupOf (now (section .entry)) address pc) ⌝ }
+{
+    flat_answer(lookup(section, address, pc))
 }

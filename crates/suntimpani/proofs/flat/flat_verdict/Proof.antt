@@ -1,10 +1,10 @@
--- `flat_verdict` gives each case its number and its index.
+-- `flat::flat_verdict` gives each case its number and its index.
 -- Assumes nothing.
 use borrow.Author.Needs.{needs}
 use Rattle.accept.specs.Checks.{verdictNumber, verdictIndex}
 use Rattle.suntimpani.specs.Flat.{flatVerdict}
-use Rattle.suntimpani.proofs.flat_verdict.Statement.{statement}
-use Rattle.suntimpani.proofs.flat_verdict.Tie as tie
+use Rattle.suntimpani.proofs.flat.flat_verdict.Statement.{statement}
+use Rattle.suntimpani.proofs.flat.flat_verdict.Tie as tie
 
 returns : tie.Need-returns
 unfolding verdictNumber verdictIndex flatVerdict
