@@ -1,18 +1,23 @@
-// Tells cargo where the library's archive lies, where the feature `library` asks for it.
+// Tells cargo where the library's archives lie, where a feature asks for one of them.
 use std::env;
-use std::path::PathBuf;
+use std::path::{Path, PathBuf};
 
 fn main() {
     println!("cargo::rerun-if-changed=build.rs");
     println!("cargo::rerun-if-env-changed=SUNTIMPANI_LIB_DIR");
-    if env::var_os("CARGO_FEATURE_LIBRARY").is_none() {
+    let folder = env::var_os("SUNTIMPANI_LIB_DIR").map_or_else(usual_folder, PathBuf::from);
+    link("CARGO_FEATURE_LIBRARY", &folder, "suntimpani");
+    link("CARGO_FEATURE_MEASURE", &folder, "measure");
+}
+
+fn link(feature: &str, folder: &Path, library: &str) {
+    if env::var_os(feature).is_none() {
         return;
     }
-    let folder = env::var_os("SUNTIMPANI_LIB_DIR").map_or_else(usual_folder, PathBuf::from);
-    let archive = folder.join("libsuntimpani.a");
+    let archive = folder.join(format!("lib{library}.a"));
     println!("cargo::rerun-if-changed={}", archive.display());
     println!("cargo::rustc-link-search=native={}", folder.display());
-    println!("cargo::rustc-link-lib=static=suntimpani");
+    println!("cargo::rustc-link-lib=static={library}");
 }
 
 fn usual_folder() -> PathBuf {

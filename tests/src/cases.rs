@@ -1,25 +1,56 @@
-//! The named cases: sections in a fixed order, each with the verdict that document 01 gives it.
+//! The named cases: sections in a fixed order, each with the verdict that document 01 gives it, and lookups to be made
+//! in it.
 //!
 //! A verdict stands as a literal beside the construction of its section; it is what the author reads in document 01,
 //! not what the reader answers. A name begins with the number expected, or with `ok` where the section is accepted.
 //! What is too large to be stored is in `large`.
 
+mod blocks;
+mod corpus;
+mod counts;
+mod document;
 mod entries;
+mod far;
+mod forms;
 mod harmless;
 mod header;
+mod overlaps;
 mod precedence;
+pub(crate) mod questions;
+mod relative;
 mod rows;
+mod sizes;
 mod starts;
+mod twins;
 
-use crate::in_repository;
+pub use corpus::{corpus_section, CORPUS, CORPUS_VERDICTS};
+pub use document::S;
+pub use questions::Question;
+
 use crate::maker::{Function, Machine, Row, Section, SORTED};
 use crate::reader::Verdict;
-use std::fs;
+use crate::ADDRESS;
+use questions::{at_edges, section_refused};
+use std::collections::BTreeSet;
 
 pub struct Case {
     pub name: String,
     pub section: Vec<u8>,
     pub expected: Verdict,
+    pub questions: Vec<Question>,
+}
+
+impl Case {
+    /// A case of which nothing is asked but the verdict.
+    pub fn new(name: impl Into<String>, section: Vec<u8>, expected: Verdict) -> Case {
+        Case { name: name.into(), section, expected, questions: Vec::new() }
+    }
+
+    /// The same, and these questions.
+    pub fn asked(mut self, questions: Vec<Question>) -> Case {
+        self.questions.extend(questions);
+        self
+    }
 }
 
 const ACCEPTED: Verdict = Verdict::Accepted;
@@ -29,91 +60,51 @@ const fn refused(number: u64, index: u64) -> Verdict {
 }
 
 fn case(name: impl Into<String>, section: &Section, expected: Verdict) -> Case {
-    Case { name: name.into(), section: section.bytes(), expected }
+    Case::new(name, section.bytes(), expected)
+}
+
+// An accepted section, asked at every edge of its functions and rows.
+fn asked_at_edges(name: impl Into<String>, section: &Section) -> Case {
+    case(name, section, ACCEPTED).asked(at_edges(section, ADDRESS))
 }
 
 /// Every case, in the order in which they are stored.
 pub fn all() -> Vec<Case> {
     let groups = [
-        document(),
-        corpus(),
+        document::all(),
+        corpus::all(),
         header::all(),
         entries::all(),
         rows::all(),
         starts::all(),
         harmless::all(),
         precedence::all(),
+        forms::all(),
+        sizes::all(),
+        blocks::all(),
+        relative::all(),
+        overlaps::all(),
+        far::all(),
+        twins::all(),
+        counts::all(),
     ];
-    groups.into_iter().flatten().collect()
+    let mut cases: Vec<Case> = groups.into_iter().flatten().collect();
+    ask_of_refused(&mut cases);
+    cases
 }
 
-/// Section S of document 01.
-#[rustfmt::skip]
-pub const S: [u8; 78] = [
-    0xe2, 0xde, 0x02, 0x01, 0x03, 0x00, 0xf8, 0x00, 0x02, 0x00, 0x00, 0x00, 0x03, 0x00, 0x00, 0x00,
-    0x0a, 0x00, 0x00, 0x00, 0x00, 0x00, 0x00, 0x00, 0x28, 0x00, 0x00, 0x00,
-    0x00, 0x10, 0x00, 0x00, 0x20, 0x00, 0x00, 0x00, 0x00, 0x00, 0x00, 0x00, 0x02, 0x00, 0x00, 0x00,
-    0x00, 0x00, 0x00, 0x00,
-    0x40, 0x10, 0x00, 0x00, 0x10, 0x00, 0x00, 0x00, 0x07, 0x00, 0x00, 0x00, 0x01, 0x00, 0x00, 0x00,
-    0x00, 0x00, 0x00, 0x00,
-    0x00, 0x03, 0x08, 0x04, 0x04, 0x10, 0xf0, 0x00, 0x03, 0x08,
-];
-
-// S and the K of document 01 that speak of the checks.
-fn document() -> Vec<Case> {
-    let mut overlapping = S;
-    overlapping[48..52].copy_from_slice(&[0x1f, 0x10, 0, 0]);
-    let mut unsorted = overlapping;
-    unsorted[3] = 0;
-    let cases = [
-        ("K1_S", &S[..], ACCEPTED),
-        ("K2_S_77_bytes", &S[..77], refused(8, 0)),
-        ("K3_S_27_bytes", &S[..27], refused(1, 0)),
-        ("K8_S_second_start_101f", &overlapping[..], refused(14, 1)),
-        ("K9_S_second_start_101f_unsorted", &unsorted[..], ACCEPTED),
-    ];
-    let stored =
-        cases.map(|(name, section, expected)| Case { name: name.to_string(), section: section.to_vec(), expected });
-    stored.into()
-}
-
-/// The folder of the sections written by public assemblers.
-pub const CORPUS: &str = "vectors/corpus/sections";
-
-/// Every section of the corpus and its verdict, as vectors/README.md has them.
-pub const CORPUS_VERDICTS: [(&str, Verdict); 14] = [
-    ("amd64_hand_o", ACCEPTED),
-    ("amd64_hand_exe", ACCEPTED),
-    ("amd64_gcc_exe", ACCEPTED),
-    ("gas_exe", ACCEPTED),
-    ("amd64_plt_so", ACCEPTED),
-    ("aarch64_hand_exe", ACCEPTED),
-    ("aarch64be_hand_exe", ACCEPTED),
-    ("aarch64_gcc_o", ACCEPTED),
-    ("llvm_amd64_hand_exe", ACCEPTED),
-    ("amd64_twice_exe", refused(13, 0)),
-    ("amd64_r_o", refused(14, 1)),
-    ("llvm_amd64_two_exe", refused(8, 0)),
-    ("v1_amd64_hand_o", refused(4, 0)),
-    ("v3_amd64_hand_o", refused(4, 0)),
-];
-
-/// The bytes of a section of the corpus.
-///
-/// # Panics
-/// Where the file cannot be read.
-pub fn corpus_section(name: &str) -> Vec<u8> {
-    let path = in_repository(CORPUS).join(format!("{name}.sframe"));
-    fs::read(&path).unwrap_or_else(|error| panic!("{}: {error}", path.display()))
-}
-
-fn corpus() -> Vec<Case> {
-    let cases = CORPUS_VERDICTS.map(|(name, expected)| Case {
-        name: name.to_string(),
-        section: corpus_section(name),
-        expected,
-    });
-    cases.into()
+// The first case of every number and index is asked too: at a PC that the sound section covers, and at one far away.
+fn ask_of_refused(cases: &mut [Case]) {
+    let mut asked = BTreeSet::new();
+    for case in cases {
+        if let Verdict::Refused { number, index } = case.expected {
+            if asked.insert((number, index)) {
+                let expected = section_refused(number, index);
+                let ask = |(address, pc)| Question { address, pc, expected };
+                case.questions.extend([(0x40_0000, 0x40_1204), (u64::MAX, 0)].map(ask));
+            }
+        }
+    }
 }
 
 /// The first, a middle and the last of four entries or rows.
@@ -135,6 +126,21 @@ fn sound(machine: Machine) -> Section {
     section
 }
 
+/// A function with a row at each of these starts, of the narrowest type that holds them. Rows of functions with
+/// different tags are different.
+fn function_at(tag: i32, start: i64, size: u32, starts: &[u32]) -> Function {
+    let row_type = match starts.last() {
+        None | Some(0..=0xff) => 0,
+        Some(0x100..=0xffff) => 1,
+        Some(_) => 2,
+    };
+    let row = |(&start, number): (&u32, i32)| {
+        let offsets = [100 * tag + 8 * number, -8 * number - 16];
+        Row::new(start, 1, &offsets[..if number % 2 == 0 { 1 } else { 2 }])
+    };
+    Function::new(start, size, row_type, starts.iter().zip(0..).map(row).collect())
+}
+
 fn sound_row(machine: Machine, function: u8, row: u8) -> Row {
     let offsets = [16, -8, -16];
     let count = 1 + (row + function) % machine.most_offsets();
@@ -148,13 +154,14 @@ fn sound_row(machine: Machine, function: u8, row: u8) -> Row {
 #[cfg(test)]
 mod tests {
     use super::*;
-    use crate::pack;
-    use std::collections::{BTreeMap, BTreeSet};
+    use crate::{in_repository, obvious, pack, reader};
+    use std::collections::BTreeMap;
+    use std::fs;
 
     #[test]
     fn names_differ_and_say_what_is_expected() {
         let mut seen = BTreeSet::new();
-        let document_or_corpus = document().len() + CORPUS_VERDICTS.len();
+        let document_or_corpus = document::all().len() + CORPUS_VERDICTS.len();
         for (place, case) in all().into_iter().enumerate() {
             assert!(pack::is_name(&case.name), "{}", case.name);
             let begin = match case.expected {
@@ -164,6 +171,37 @@ mod tests {
             let says = case.name.starts_with(&begin) || place < document_or_corpus;
             assert!(says, "{} expects {}", case.name, case.expected);
             assert!(seen.insert(case.name.clone()), "{} twice", case.name);
+        }
+    }
+
+    #[test]
+    fn every_question_is_answered_as_stated_and_by_the_definition() {
+        for case in all() {
+            for &Question { address, pc, expected } in &case.questions {
+                let asked = format!("{} at {address:x}, PC {pc:x}", case.name);
+                assert_eq!(reader::lookup(&case.section, address, pc), expected, "{asked}: the author");
+                assert_eq!(obvious::lookup(&case.section, address, pc), expected, "{asked}: the definition");
+            }
+        }
+    }
+
+    #[test]
+    fn every_answer_comes_often() {
+        let mut counts: BTreeMap<u64, usize> = BTreeMap::new();
+        let mut seen = BTreeSet::new();
+        for case in all() {
+            for question in &case.questions {
+                *counts.entry(question.expected.refusal()).or_default() += 1;
+                let new = seen.insert((case.name.clone(), question.address, question.pc));
+                assert!(new, "{} is asked twice at {:x}, PC {:x}", case.name, question.address, question.pc);
+            }
+        }
+        println!("how often each number is answered (0: found): {counts:?}");
+        let numbers: Vec<u64> = counts.keys().copied().collect();
+        assert_eq!(numbers, [&[0, 1][..], &Vec::from_iter(3..=15), &[21, 22, 23]].concat());
+        for (number, count) in counts {
+            let enough = if (1..=15).contains(&number) { 2 } else { 50 };
+            assert!(count >= enough, "{number} is answered {count} times");
         }
     }
 

@@ -2,9 +2,12 @@
 //! row counts add up only modulo 2^32.
 #![forbid(unsafe_code)]
 
-use crate::cases::Case;
+use crate::cases::{Case, Question};
 use crate::maker::{FirstRow, Function, Machine, Row, Section, SORTED};
-use crate::reader::Verdict;
+use crate::obvious::{described, halvings_of};
+use crate::reader::{Answer, Outcome, Verdict};
+use crate::stream::Random;
+use crate::ADDRESS;
 
 const LIMIT: usize = 16_777_216;
 
@@ -37,8 +40,39 @@ pub fn at_the_limit() -> impl Iterator<Item = Case> {
     AT_THE_LIMIT.into_iter().map(|(name, length, edit, expected)| {
         let mut section = of_length(length);
         edit(&mut section);
-        Case { name: name.to_string(), section: section.bytes(), expected }
+        Case::new(name, section.bytes(), expected).asked(questions(expected))
     })
+}
+
+// Lookups in the first function, the last and one between, and outside of all; a refused section refuses each.
+fn questions(verdict: Verdict) -> Vec<Question> {
+    let rows = &described(&many_functions(1))[0].rows;
+    let outcome = |function: Option<u64>, number: usize| match (verdict, function) {
+        (Verdict::Refused { number, index }, _) => Outcome::SectionRefused { number, index },
+        (_, None) => Outcome::NoFunction,
+        (_, Some(function)) => Outcome::Found { function, number: number as u64, row: rows[number] },
+    };
+    let ask = |(begun, o, function, number): (u64, i64, Option<u64>, usize)| Question {
+        address: ADDRESS,
+        pc: ADDRESS.wrapping_add_signed(start_of(begun as usize) - 32 + o),
+        expected: Answer {
+            outcome: outcome(function, number),
+            compared: if verdict == Verdict::Accepted { halvings_of(LAST + 1, begun) } else { 0 },
+        },
+    };
+    // So many functions that have begun, o in the last of them, and its row.
+    let places = [
+        (0, 31, None, 0),
+        (1, 0, Some(0), 0),
+        (1, 31, Some(0), 3),
+        (LAST / 3, 1, Some(LAST / 3 - 1), 1),
+        (LAST / 2, 30, Some(LAST / 2 - 1), 2),
+        (LAST, 31, Some(LAST - 1), 3),
+        (LAST + 1, 0, Some(LAST), 0),
+        (LAST + 1, 31, Some(LAST), 3),
+        (LAST + 1, 32, None, 0),
+    ];
+    places.map(ask).to_vec()
 }
 
 // A sorted section of exactly so many bytes, with as many entries as fit; they share four rows.
@@ -64,6 +98,17 @@ pub fn many_functions(count: usize) -> Section {
     section
 }
 
+/// The same functions in another order, without the flag.
+pub fn many_functions_unsorted(count: usize) -> Section {
+    let mut section = many_functions(count);
+    section.flags = 0;
+    let mut random = Random::new(count as u64);
+    for last in (1..count).rev() {
+        section.functions.swap(last, random.below(last as u64 + 1) as usize);
+    }
+    section
+}
+
 fn start_of(index: usize) -> i64 {
     32 * index as i64 - 0x4000_0000
 }
@@ -86,13 +131,13 @@ pub fn sum_of_2_32() -> Case {
     sharing.first_row = FirstRow::SharedWith(0);
     section.functions.resize(65_536, sharing);
     section.claims.rows = Some(0);
-    Case { name: "15_sum_of_2_32".to_string(), section: section.bytes(), expected: refused(15, 0) }
+    Case::new("15_sum_of_2_32", section.bytes(), refused(15, 0))
 }
 
 #[cfg(test)]
 mod tests {
     use super::*;
-    use crate::reader::check;
+    use crate::reader::{check, functions, lookup};
 
     #[test]
     fn sections_at_the_limit_are_judged_as_stated() {
@@ -100,13 +145,31 @@ mod tests {
         for (case, length) in at_the_limit().zip(lengths) {
             assert_eq!(case.section.len(), length, "{}", case.name);
             assert_eq!(check(&case.section), case.expected, "{}", case.name);
+            for Question { address, pc, expected } in &case.questions {
+                assert_eq!(lookup(&case.section, *address, *pc), *expected, "{}, PC {pc:x}", case.name);
+            }
         }
+    }
+
+    #[test]
+    fn a_lookup_at_the_limit_compares_20_entries_at_most() {
+        let compared = (0..=LAST + 1).map(|begun| halvings_of(LAST + 1, begun));
+        assert_eq!(compared.max(), Some(20));
     }
 
     #[test]
     fn the_section_of_many_functions_is_sound() {
         let section = many_functions(1000).bytes();
         assert_eq!((section.len(), check(&section)), (28 + 34 * 1000, Verdict::Accepted));
+    }
+
+    #[test]
+    fn the_unsorted_section_lists_the_same_functions() {
+        let sorted = functions(&many_functions(1000).bytes());
+        let mut unsorted = functions(&many_functions_unsorted(1000).bytes());
+        assert_ne!(unsorted, sorted);
+        unsorted.sort_by_key(|function| function.start);
+        assert_eq!(unsorted, sorted);
     }
 
     #[test]

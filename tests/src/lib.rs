@@ -1,8 +1,10 @@
 //! The independent reader of `.sframe` sections, what it is tried on, and how the library is held against it.
 //!
-//! `reader` is written from document 01 alone. `maker` builds sections the other way round, from a description to
-//! bytes, and shares nothing with it. `cases` is the fixed list of named sections, `pack` the form in which they are
-//! stored, `large` the sections too big to store, `stream` an endless seeded source of more.
+//! `reader` is written from document 01 alone, and `obvious` makes its lookups once more, slowly. `maker` builds
+//! sections the other way round, from a description to bytes, and shares nothing with it. `cases` is the fixed list of
+//! named sections and questions, `pack` the form in which they are stored, `large` the sections too big to store,
+//! `stream` an endless seeded source of more. `library` and `guarded` hold the proved library against the reader,
+//! `measured` and `timing` measure both.
 #![deny(unsafe_code)]
 
 pub mod cases;
@@ -12,11 +14,18 @@ pub mod large;
 #[cfg(feature = "library")]
 pub mod library;
 pub mod maker;
+#[cfg(feature = "measure")]
+pub mod measured;
+pub mod obvious;
 pub mod pack;
 pub mod reader;
 pub mod stream;
+pub mod timing;
 
 use std::path::{Path, PathBuf};
+
+/// Where a section is loaded when its address is of no interest: far from both ends, so that a PC reaches every place.
+pub const ADDRESS: u64 = 0x5555_5555_6000;
 
 /// A path of the repository, whatever the folder that a command was started in.
 pub fn in_repository(path: &str) -> PathBuf {

@@ -1,9 +1,13 @@
-//! The independent reader: the section checks and the meaning of an accepted section, written from document 01 alone.
+//! The independent reader: the section checks, the meaning of an accepted section, and lookups in it, written from
+//! document 01 alone.
 //!
 //! It is what the proved crates are compared with, so it shares nothing with them. Every sum is of i64 or u64 and exact:
 //! a start is an i32 plus a position below 2^24 + 1, a size is below 2^32, and row counts add up to less than 2^52.
 #![forbid(unsafe_code)]
 
+mod lookup;
+
+pub use lookup::{lookup, Answer, Checked, Outcome};
 use std::fmt;
 
 const HEADER_BYTES: usize = 28;
@@ -92,9 +96,10 @@ pub fn functions(section: &[u8]) -> Vec<Function> {
 }
 
 /// A broken rule's number and the index of the entry that breaks it.
-struct Refusal {
-    number: u64,
-    index: u64,
+#[derive(Clone, Copy, Debug, PartialEq, Eq)]
+pub struct Refusal {
+    pub number: u64,
+    pub index: u64,
 }
 
 /// One rule, tried: refused with its number where it is broken.
@@ -111,7 +116,7 @@ fn accept(section: &[u8]) -> Result<Parts<'_>, Refusal> {
     let parts = try_header(section).map_err(|number| Refusal { number, index: 0 })?;
     let mut rows_of_all = 0;
     let mut end_before = None;
-    for index in 0..parts.function_count {
+    for index in 0..parts.table.len() {
         let entry = parts.entry(index);
         try_entry(&parts, &entry, end_before).map_err(|number| Refusal { number, index: index as u64 })?;
         end_before = Some(entry.start + i64::from(entry.size));
@@ -146,10 +151,9 @@ fn try_header(section: &[u8]) -> Result<Parts<'_>, u64> {
         machine,
         sorted: header.flags & SORTED != 0,
         relative: header.flags & RELATIVE != 0,
-        function_count: header.functions as usize,
         row_count: u64::from(header.rows),
         table_at: table,
-        table: &section[table..area],
+        table: section[table..area].as_chunks().0,
         area: &section[area..],
     })
 }
@@ -194,14 +198,11 @@ impl Order {
     }
 
     /// The same field, its highest bit being the sign.
+    #[inline(always)]
     fn signed(self, field: &[u8]) -> i64 {
-        let number = i64::from(self.unsigned(field));
-        let values = 1_i64 << (8 * field.len());
-        if number < values / 2 {
-            number
-        } else {
-            number - values
-        }
+        // Moved up until that bit is the highest of 64, and back, which keeps the sign.
+        let above = 64 - 8 * field.len();
+        i64::from(self.unsigned(field)) << above >> above
     }
 }
 
@@ -286,19 +287,19 @@ struct Parts<'a> {
     machine: Machine,
     sorted: bool,
     relative: bool,
-    function_count: usize,
     row_count: u64,
     /// Where the table stands in the section: a relative start counts from its own field.
     table_at: usize,
-    table: &'a [u8],
+    table: &'a [[u8; ENTRY_BYTES]],
     area: &'a [u8],
 }
 
 impl<'a> Parts<'a> {
+    // Inlined into the searches, which look at a start or a size and leave the rest unread.
+    #[inline(always)]
     fn entry(&self, index: usize) -> Entry {
-        let at = ENTRY_BYTES * index;
-        let bytes = &self.table[at..at + ENTRY_BYTES];
-        let position = if self.relative { self.table_at + at } else { 0 };
+        let bytes = &self.table[index];
+        let position = if self.relative { self.table_at + ENTRY_BYTES * index } else { 0 };
         Entry {
             start: self.order.signed(&bytes[0..4]) + position as i64,
             size: self.order.unsigned(&bytes[4..8]),
@@ -322,11 +323,11 @@ impl<'a> Parts<'a> {
         let offset_width = 1 << size_code;
         let end = offsets_at + usize::from(count) * offset_width;
         let offsets = self.area.get(offsets_at..end).ok_or(11_u64)?;
-        Ok(RawRow { start: self.order.unsigned(start), info, offsets, offset_width, end })
+        Ok(RawRow { start: self.order.unsigned(start), info, offsets, end })
     }
 
     fn functions(&self) -> Vec<Function> {
-        let entries = (0..self.function_count).map(|index| self.entry(index));
+        let entries = (0..self.table.len()).map(|index| self.entry(index));
         entries.map(|entry| self.function(&entry)).collect()
     }
 
@@ -337,29 +338,37 @@ impl<'a> Parts<'a> {
             let Ok(row) = self.row(place, entry.start_width()) else {
                 unreachable!("every row of an accepted section can be read");
             };
-            rows.push(self.meaning(&row));
+            rows.push(self.meaning(row.start, row.info, row.offsets));
             place = row.end;
         }
         let block = if entry.is_repeated() { Block::Repeated(entry.repeat) } else { Block::Plain };
         Function { start: entry.start, size: entry.size, block, rows }
     }
 
-    fn meaning(&self, row: &RawRow) -> Row {
-        let mut offsets = row.offsets.chunks(row.offset_width);
-        let mut next = || offsets.next().map(|field| self.order.signed(field));
-        let cfa_offset = next().expect("a row of an accepted section has an offset");
+    // What a row of an accepted section means; bytes that follow its offsets are not looked at.
+    fn meaning(&self, start: u32, info: u8, offsets: &[u8]) -> Row {
+        match info >> 5 & 0x3 {
+            0 => self.meaning_by_width::<1>(start, info, offsets),
+            1 => self.meaning_by_width::<2>(start, info, offsets),
+            _ => self.meaning_by_width::<4>(start, info, offsets),
+        }
+    }
+
+    fn meaning_by_width<const WIDTH: usize>(&self, start: u32, info: u8, offsets: &[u8]) -> Row {
+        let count = usize::from(info >> 1 & 0xf);
+        let offset = |number: usize| self.order.signed(&offsets[WIDTH * number..WIDTH * (number + 1)]);
+        let place = |number| if number < count { Place::AtOffset(offset(number)) } else { Place::Register };
         let (ra, fp) = match self.machine {
-            Machine::Amd64 => (Some(-8), next()),
-            Machine::Aarch64 => (next(), next()),
+            Machine::Amd64 => (Place::AtOffset(-8), place(1)),
+            Machine::Aarch64 => (place(1), place(2)),
         };
-        let place = |offset: Option<i64>| offset.map_or(Place::Register, Place::AtOffset);
         Row {
-            start: row.start,
-            base: if row.info & 1 == 0 { Base::Fp } else { Base::Sp },
-            cfa_offset,
-            ra: place(ra),
-            fp: place(fp),
-            signed: matches!(self.machine, Machine::Aarch64) && row.info & 0x80 != 0,
+            start,
+            base: if info & 1 == 0 { Base::Fp } else { Base::Sp },
+            cfa_offset: offset(0),
+            ra,
+            fp,
+            signed: matches!(self.machine, Machine::Aarch64) && info & 0x80 != 0,
         }
     }
 }
@@ -394,7 +403,6 @@ struct RawRow<'a> {
     start: u32,
     info: u8,
     offsets: &'a [u8],
-    offset_width: usize,
     /// Where the next row begins.
     end: usize,
 }

@@ -1,8 +1,12 @@
-//! An endless source of sections, sound and damaged, the same for the same seed.
+//! An endless source of sections, sound and damaged, the same for the same seed, and of lookups in them.
 //!
 //! A section begins as a random sound description. Most are then damaged: a field of the description, bytes of what
 //! was built from it, or its length. Damage likes the edges: one below, exactly at, one above.
 #![forbid(unsafe_code)]
+
+mod lookups;
+
+pub use lookups::questions;
 
 use crate::maker::{FirstRow, Function, Machine, Row, Section, Start, RELATIVE, SORTED};
 
@@ -60,19 +64,19 @@ impl Iterator for Stream {
     fn next(&mut self) -> Option<Vec<u8>> {
         let random = &mut self.0;
         let mut section = sound(random);
-        Some(match random.below(10) {
-            0 | 1 => section.bytes(),
-            2..=6 => {
+        Some(match random.below(12) {
+            0..=3 => section.bytes(),
+            4..=8 => {
                 random.pick(&DAMAGES)(random, &mut section);
                 section.bytes()
             }
-            7 => {
+            9 => {
                 for _ in 0..2 + random.below(2) {
                     random.pick(&DAMAGES)(random, &mut section);
                 }
                 section.bytes()
             }
-            8 => with_other_bytes(random, section.bytes()),
+            10 => with_other_bytes(random, section.bytes()),
             _ => with_another_length(random, section.bytes()),
         })
     }
@@ -135,18 +139,19 @@ fn sound_row(random: &mut Random, machine: Machine, start: u32) -> Row {
     row
 }
 
-// Sizes and effective starts; in order, and often adjoining, where the section is sorted.
+// Sizes and effective starts; in order, and often adjoining, where the section is sorted, and else often overlapping.
 fn place_functions(random: &mut Random, section: &mut Section) {
     let sorted = section.flags & SORTED != 0;
-    let mut end = random.below(0x8000_0000) as i64 - 0x4000_0000;
+    let mut before = random.below(0x8000_0000) as i64 - 0x4000_0000;
+    let mut end = before;
     let count = section.functions.len();
     for (index, function) in section.functions.iter_mut().enumerate() {
         let size = random.pick(&[0, 1, 16, 0x100, 0xffff]);
         let widest = !sorted || index + 1 == count;
-        function.size = if widest && random.once_in(4) { u32::MAX - random.below(3) as u32 } else { size };
-        let start = if sorted { end + random.pick(&[0, 0, 1, 1000]) } else { random.number() as i32 as i64 / 2 };
+        function.size = if widest && random.once_in(8) { u32::MAX - random.below(3) as u32 } else { size };
+        let start = if sorted { end + random.pick(&[0, 0, 1, 1000]) } else { unsorted_start(random, before, end) };
         function.start = Start::Effective(start);
-        end = start + i64::from(function.size);
+        (before, end) = (start, start + i64::from(function.size));
     }
     // The outermost fields, which only the first and the last of a sorted section can have.
     if count > 0 && random.once_in(10) {
@@ -154,6 +159,15 @@ fn place_functions(random: &mut Random, section: &mut Section) {
     }
     if count > 1 && random.once_in(10) {
         section.functions[count - 1].start = Start::Field(i32::MAX);
+    }
+}
+
+// Anywhere, where the function before ends, or so close to its start that most overlap.
+fn unsorted_start(random: &mut Random, before: i64, end: i64) -> i64 {
+    match random.below(4) {
+        0 => random.number() as i32 as i64 / 2,
+        1 if end < 0x7000_0000 => end,
+        _ => before + random.pick(&[-16, -1, 0, 1, 8, 20]),
     }
 }
 
@@ -292,39 +306,9 @@ fn with_another_length(random: &mut Random, mut section: Vec<u8>) -> Vec<u8> {
 #[cfg(test)]
 mod tests {
     use super::*;
-    use crate::reader::{self, Base, Block, Place, Verdict};
+    use crate::obvious::{self, described};
+    use crate::reader::{self, Verdict};
     use std::collections::BTreeMap;
-
-    // What a sound description means, straight from its values.
-    fn described(section: &Section) -> Vec<reader::Function> {
-        let function = |index: usize| {
-            let function = &section.functions[index];
-            let rows = match function.first_row {
-                FirstRow::SharedWith(other) => &section.functions[other].rows,
-                _ => &function.rows,
-            };
-            reader::Function {
-                start: section.effective_start(index),
-                size: function.size,
-                block: if function.repeated { Block::Repeated(function.repeat) } else { Block::Plain },
-                rows: rows.iter().map(|row| described_row(section.abi, row)).collect(),
-            }
-        };
-        (0..section.functions.len()).map(function).collect()
-    }
-
-    fn described_row(abi: u8, row: &Row) -> reader::Row {
-        let place = |index: usize| row.offsets.get(index).map_or(Place::Register, |&o| Place::AtOffset(o.into()));
-        let amd64 = abi == 3;
-        reader::Row {
-            start: row.start,
-            base: if row.sp_base { Base::Sp } else { Base::Fp },
-            cfa_offset: row.offsets[0].into(),
-            ra: if amd64 { Place::AtOffset(-8) } else { place(1) },
-            fp: place(if amd64 { 1 } else { 2 }),
-            signed: row.signed && !amd64,
-        }
-    }
 
     #[test]
     fn sound_sections_are_accepted_and_mean_what_was_described() {
@@ -350,6 +334,23 @@ mod tests {
         let numbers: Vec<u64> = counts.keys().copied().collect();
         assert_eq!(numbers, [&[0, 1][..], &Vec::from_iter(3..=15)].concat());
         assert!(counts.values().all(|&count| count >= 50), "{counts:?}");
+    }
+
+    #[test]
+    fn lookups_are_by_the_definition_and_every_answer_comes_often() {
+        let mut counts: BTreeMap<u64, u32> = BTreeMap::new();
+        let mut random = Random::new(5);
+        for (turn, section) in Stream::new(2).take(20_000).enumerate() {
+            for (address, pc) in questions(&mut random, &section) {
+                let answer = reader::lookup(&section, address, pc);
+                assert_eq!(answer, obvious::lookup(&section, address, pc), "section {turn}, {address:x}, PC {pc:x}");
+                *counts.entry(answer.refusal()).or_default() += 1;
+            }
+        }
+        println!("how often each number is answered (0: found): {counts:?}");
+        for number in [0, 21, 22, 23] {
+            assert!(counts.get(&number).is_some_and(|&count| count >= 1_000), "{number}: {counts:?}");
+        }
     }
 
     #[test]

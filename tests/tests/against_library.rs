@@ -1,4 +1,5 @@
-//! Holds the library against the independent reader: the stored cases, the large ones, and a seeded stream.
+//! Holds the library against the independent reader, checks and lookups: the stored cases, the large ones, and a seeded
+//! stream.
 //!
 //! Everything lent to the library lies flush against a forbidden page, once at its front and once at its end, so that
 //! a read outside it ends the test.
@@ -6,32 +7,50 @@
 use std::collections::BTreeMap;
 use std::os::unix::process::ExitStatusExt;
 use std::process::Command;
-use suntimpani_tests::cases::{self, Case};
+use suntimpani_tests::cases::{self, Case, Question};
 use suntimpani_tests::guarded::Guarded;
-use suntimpani_tests::reader::{self, Verdict};
-use suntimpani_tests::stream::Stream;
+use suntimpani_tests::reader::{self, Answer, Verdict};
+use suntimpani_tests::stream::{questions, Random, Stream};
 use suntimpani_tests::{large, library};
 
 const SEED: u64 = 20_260_101;
 const SECTIONS: usize = 300_000;
 
+/// An address, a PC, and what the reader answers.
+type Answered = (u64, u64, Answer);
+
 // Both sides of a section are forbidden ground, one at a time.
-fn compare(room: &mut Guarded, section: &[u8], expected: Verdict, name: &str) {
-    assert_eq!(library::check(room.at_front(section)), expected, "{name}, at the front of its memory");
-    assert_eq!(library::check(room.at_end(section)), expected, "{name}, at the end of its memory");
+fn compare(room: &mut Guarded, section: &[u8], verdict: Verdict, answers: &[Answered], name: &str) {
+    compare_at(room.at_front(section), verdict, answers, &format!("{name}, at the front of its memory"));
+    compare_at(room.at_end(section), verdict, answers, &format!("{name}, at the end of its memory"));
+}
+
+fn compare_at(section: &[u8], verdict: Verdict, answers: &[Answered], name: &str) {
+    assert_eq!(library::check(section), verdict, "{name}");
+    for (address, pc, answer) in answers {
+        let expected = library::Answer::of(answer);
+        assert_eq!(library::lookup(section, *address, *pc), expected, "{name}: {address:x}, PC {pc:x}");
+    }
 }
 
 fn compare_case(case: &Case) {
     let mut room = Guarded::with_room(case.section.len());
     let verdict = reader::check(&case.section);
     assert_eq!(verdict, case.expected, "{}: the reader", case.name);
-    compare(&mut room, &case.section, verdict, &case.name);
+    let answer = |&Question { address, pc, expected }: &Question| {
+        let answer = reader::lookup(&case.section, address, pc);
+        assert_eq!(answer, expected, "{}: the reader, at {address:x}, PC {pc:x}", case.name);
+        (address, pc, answer)
+    };
+    let answers: Vec<Answered> = case.questions.iter().map(answer).collect();
+    compare(&mut room, &case.section, verdict, &answers, &case.name);
 }
 
 #[test]
 fn stored_cases() {
     let cases = cases::all();
-    assert!(cases.len() > 1_000, "{} cases", cases.len());
+    let questions: usize = cases.iter().map(|case| case.questions.len()).sum();
+    assert!(cases.len() > 1_000 && questions > 3_000, "{} cases, {questions} questions", cases.len());
     cases.iter().for_each(compare_case);
 }
 
@@ -48,21 +67,52 @@ fn a_sum_of_2_32() {
 
 #[test]
 fn the_stream() {
-    let mut counts: BTreeMap<u64, usize> = BTreeMap::new();
+    let (mut verdicts, mut answers) = (Counts::default(), Counts::default());
     let mut room = Guarded::with_room(1 << 20);
+    let mut random = Random::new(SEED + 1);
     for (turn, section) in Stream::new(SEED).take(SECTIONS).enumerate() {
         let verdict = reader::check(&section);
-        compare(&mut room, &section, verdict, &format!("section {turn} of seed {SEED}"));
-        let number = match verdict {
-            Verdict::Accepted => 0,
-            Verdict::Refused { number, .. } => number,
-        };
-        *counts.entry(number).or_default() += 1;
+        let asked = questions(&mut random, &section).into_iter();
+        let answered: Vec<Answered> =
+            asked.map(|(address, pc)| (address, pc, reader::lookup(&section, address, pc))).collect();
+        compare(&mut room, &section, verdict, &answered, &format!("section {turn} of seed {SEED}"));
+        verdicts.count(number_of(verdict));
+        answered.iter().for_each(|(_, _, answer)| answers.count(answer.refusal()));
     }
-    println!("{SECTIONS} sections of seed {SEED}, how often each number came (0: accepted): {counts:?}");
-    for number in [0, 1].into_iter().chain(3..=15) {
-        let enough = if number == 0 { 1_000 } else { 100 };
-        assert!(counts.get(&number).is_some_and(|&count| count >= enough), "number {number}: {counts:?}");
+    println!("{SECTIONS} sections of seed {SEED}, how often each number came (0: accepted): {:?}", verdicts.0);
+    println!("{} lookups in them (0: found): {:?}", answers.sum(), answers.0);
+    assert!(answers.sum() >= 200_000);
+    for refusal in [1].into_iter().chain(3..=15) {
+        verdicts.assert_at_least(100, refusal);
+        answers.assert_at_least(100, refusal);
+    }
+    verdicts.assert_at_least(1_000, 0);
+    [0, 21, 22, 23].into_iter().for_each(|number| answers.assert_at_least(1_000, number));
+}
+
+fn number_of(verdict: Verdict) -> u64 {
+    match verdict {
+        Verdict::Accepted => 0,
+        Verdict::Refused { number, .. } => number,
+    }
+}
+
+/// How often each number came.
+#[derive(Debug, Default)]
+struct Counts(BTreeMap<u64, usize>);
+
+impl Counts {
+    fn count(&mut self, number: u64) {
+        *self.0.entry(number).or_default() += 1;
+    }
+
+    fn sum(&self) -> usize {
+        self.0.values().sum()
+    }
+
+    fn assert_at_least(&self, enough: usize, number: u64) {
+        let count = self.0.get(&number).copied().unwrap_or(0);
+        assert!(count >= enough, "number {number} came {count} times: {self:?}");
     }
 }
 

@@ -3,10 +3,12 @@
 //! The dumps all have one form. A function's `pc` is the section's address plus its effective start; a row's STARTPC
 //! is the function's pc plus the row's start, or the row's start alone where the head says STARTPC[m], a repeated block.
 
+use std::collections::BTreeSet;
 use std::fs;
 use suntimpani_tests::cases::{corpus_section, CORPUS, CORPUS_VERDICTS};
 use suntimpani_tests::in_repository;
-use suntimpani_tests::reader::{check, functions, Base, Block, Function, Header, Place, Row, Verdict};
+use suntimpani_tests::reader::{check, functions, lookup};
+use suntimpani_tests::reader::{Base, Block, Function, Header, Outcome, Place, Row, Verdict};
 
 /// What a dump says of a section.
 struct Dump {
@@ -41,6 +43,32 @@ impl Dump {
             row_count: number("Num FREs:").expect("a count of rows"),
             functions: shown_functions(&text),
         })
+    }
+
+    // The rows of a function, their starts counted from it.
+    fn rows(&self, function: usize) -> Vec<Row> {
+        let shown = &self.functions[function];
+        let counted_from = if shown.repeated { 0 } else { shown.pc };
+        shown.rows.iter().map(|row| shown_row(row, counted_from, self.fixed_ra)).collect()
+    }
+
+    // What a lookup must come to, by what is shown alone. A repeated block is the 16 bytes of an entry of the PLT.
+    fn outcome(&self, pc: i64) -> Outcome {
+        let covers = |shown: &ShownFunction| shown.pc <= pc && pc < shown.pc + i64::from(shown.size);
+        let covering: Vec<usize> = (0..self.functions.len()).filter(|&index| covers(&self.functions[index])).collect();
+        let function = match covering[..] {
+            [] => return Outcome::NoFunction,
+            [only] => only,
+            [first, second, ..] => return Outcome::Disputed { first: first as u64, second: second as u64 },
+        };
+        let within = pc - self.functions[function].pc;
+        let place = if self.functions[function].repeated { within % 16 } else { within };
+        let rows = self.rows(function);
+        let begun = rows.iter().filter(|row| i64::from(row.start) <= place).count();
+        match begun.checked_sub(1) {
+            None => Outcome::NoRow { function: function as u64 },
+            Some(number) => Outcome::Found { function: function as u64, number: number as u64, row: rows[number] },
+        }
     }
 }
 
@@ -122,9 +150,7 @@ fn compare(name: &str, dump: &Dump, found: &[Function]) {
         assert_eq!(shown.pc - function.start, address, "{name}: the section's address by function {index}");
         assert_eq!(function.size, shown.size, "{name}: size of function {index}");
         assert_eq!(function.block != Block::Plain, shown.repeated, "{name}: block of function {index}");
-        let counted_from = if shown.repeated { 0 } else { shown.pc };
-        let rows: Vec<Row> = shown.rows.iter().map(|row| shown_row(row, counted_from, dump.fixed_ra)).collect();
-        assert_eq!(function.rows, rows, "{name}: rows of function {index}");
+        assert_eq!(function.rows, dump.rows(index), "{name}: rows of function {index}");
     }
 }
 
@@ -158,6 +184,30 @@ fn functions_of_accepted_sections_are_as_shown() {
         }
     }
     assert_eq!(compared.len(), 8, "{compared:?}");
+}
+
+// Every PC of every shown function, and those just before and behind it.
+#[test]
+fn lookups_find_what_is_shown() {
+    let mut kinds = [0; 3];
+    for (name, verdict) in CORPUS_VERDICTS {
+        let (Verdict::Accepted, Some(dump)) = (verdict, Dump::of(name)) else { continue };
+        let section = corpus_section(name);
+        let address = dump.functions[0].pc - functions(&section)[0].start;
+        let ranges = dump.functions.iter().map(|shown| (shown.pc - 1).max(0)..=shown.pc + i64::from(shown.size));
+        let pcs: BTreeSet<i64> = ranges.flatten().collect();
+        for pc in pcs {
+            let expected = dump.outcome(pc);
+            assert_eq!(lookup(&section, address as u64, pc as u64).outcome, expected, "{name} at {pc:x}");
+            match expected {
+                Outcome::Found { .. } => kinds[0] += 1,
+                Outcome::Disputed { .. } => kinds[1] += 1,
+                _ => kinds[2] += 1,
+            }
+        }
+    }
+    println!("found, disputed and neither: {kinds:?}");
+    assert!(kinds.iter().all(|&count| count > 10), "{kinds:?}");
 }
 
 #[test]

@@ -50,21 +50,18 @@ halving-begins {s} {layout} d header =
     }
 
 module _ {s : List ℕ} {n d low high compared : ℕ} (halved : Halved s n d low high compared) (lt : low < high) where
-  middle-is : low + (high - low) / 2 ≡ (low + high) / 2
-  middle-is = omega arith
-
   turns-left : n - compared ≡ suc (n - suc compared)
   turns-left = omega (arith, halved .spent)
 
   -- the entry that is compared
-  pub middle-within : low + (high - low) / 2 < n
+  pub middle-within : (low + high) / 2 < n
   middle-within = omega (arith, halved .within)
 
-  at-middle : {t : Bool} (z : ℤ) → leZ (functionStart s (low + (high - low) / 2)) z ≡ t → startsAtMost z (functionsOf s) ((low + high) / 2) ≡ t
-  at-middle z e = rw (← middle-is) (starts-in s z _ (rw (halved .all) at middle-within) ∙ e)
+  at-middle : {t : Bool} (z : ℤ) → leZ (functionStart s ((low + high) / 2)) z ≡ t → startsAtMost z (functionsOf s) ((low + high) / 2) ≡ t
+  at-middle z e = starts-in s z _ (rw (halved .all) at middle-within) ∙ e
 
-  pub goes-up : ((z : ℤ) → Near z d → leZ (functionStart s (low + (high - low) / 2)) z ≡ true)
-      → Halved s n d (suc (low + (high - low) / 2)) high (suc compared)
+  pub goes-up : ((z : ℤ) → Near z d → leZ (functionStart s ((low + high) / 2)) z ≡ true)
+      → Halved s n d (suc ((low + high) / 2)) high (suc compared)
   goes-up starts =
       record {
         all = halved .all;
@@ -72,11 +69,11 @@ module _ {s : List ℕ} {n d low high compared : ℕ} (halved : Halved s n d low
         ordered = omega arith;
         within = halved .within;
         spent = omega (arith, halved .spent);
-        same = λ z near. rw middle-is (sym (halve-up _ _ _ _ _ lt (at-middle z (starts z near))) ∙ (rw turns-left at (halved .same z near)));
+        same = λ z near. sym (halve-up _ _ _ _ _ lt (at-middle z (starts z near))) ∙ (rw turns-left at (halved .same z near));
       }
 
-  pub goes-down : ((z : ℤ) → Near z d → leZ (functionStart s (low + (high - low) / 2)) z ≡ false)
-      → Halved s n d low (low + (high - low) / 2) (suc compared)
+  pub goes-down : ((z : ℤ) → Near z d → leZ (functionStart s ((low + high) / 2)) z ≡ false)
+      → Halved s n d low ((low + high) / 2) (suc compared)
   goes-down starts =
       record {
         all = halved .all;
@@ -84,7 +81,7 @@ module _ {s : List ℕ} {n d low high compared : ℕ} (halved : Halved s n d low
         ordered = omega arith;
         within = omega (arith, halved .within);
         spent = omega (arith, halved .spent);
-        same = λ z near. rw middle-is (sym (halve-down _ _ _ _ _ lt (at-middle z (starts z near))) ∙ (rw turns-left at (halved .same z near)));
+        same = λ z near. sym (halve-down _ _ _ _ _ lt (at-middle z (starts z near))) ∙ (rw turns-left at (halved .same z near));
       }
 
 pub halving-ends : {s : List ℕ} {n d low high compared : ℕ} → Halved s n d low high compared → high ≤ low → (z : ℤ) → Near z d

@@ -5,6 +5,7 @@ pub mod Exactly
 mod Examples
 pub mod HalvingLaws
 pub mod HalvingTurns
+pub mod HeldTests
 pub mod LandedLaws
 pub mod LastRowLaws
 pub mod LookLaws

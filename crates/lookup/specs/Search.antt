@@ -1,6 +1,6 @@
 -- How the covering function is found: a section that is not sorted is scanned, a sorted one is halved. It is defined on any
 -- list of functions; on an accepted section it finds what `covering` says (`search-finds-covering`).
-use Prim.Native.Nat.{ℕ, zero, suc, _-_, _<_}
+use Prim.Native.Nat.{ℕ, zero, suc, _+_, _-_, _^_, _<_}
 use mathlib.Core.Path.{_≡_}
 use mathlib.Core.Bool.{Bool, true, false}
 use mathlib.Core.List.{List}
@@ -44,6 +44,14 @@ pub record RowAsked (s : List ℕ) (layout : Layout) (i : ℕ) (d : ℤ) : Type 
   pub within : covers d (functionIn s i) ≡ true
 
 -- ---- functions
+
+-- what the start field at a place counts from: that place under flag 0x4, else the section
+unfoldable pub positionAt : Bool → ℕ → ℕ
+positionAt relative at = elim relative [ true ↦ at | false ↦ 0 ]
+
+-- how far d is past a start, as both are held: before the start it is 2 ^ 64 less what is missing, farther than any size
+unfoldable pub pastStart : ℕ → ℕ → ℕ
+pastStart start d = elim (leb start d) [ true ↦ d - start | false ↦ d + 2 ^ 64 - start ]
 
 -- the first index, of `left` from i on, of which a test is true, and one past the last where there is none
 unfoldable pub firstWhere : (ℕ → Bool) → ℕ → ℕ → ℕ

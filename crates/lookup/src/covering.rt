@@ -11,13 +11,13 @@ ghost use lib.Signed.{leZ, ltZ};
 ghost use Rattle.numbers.specs.Held.{Held, Near};
 ghost use Rattle.section.specs.Meaning.{functionIn, functionsOf};
 ghost use Rattle.lookup.specs.Covering.{covers, covering, coverOf};
-ghost use Rattle.lookup.specs.Search.{TableOf, firstWhere};
+ghost use Rattle.lookup.specs.Search.{TableOf, pastStart, firstWhere};
 
 // Whether functions cover: none, one, or two or more, and then the two lowest. By their indexes.
 pub enum Cover {
     Nobody,
-    One(u32),
-    Two { first: u32, second: u32 },
+    One(u64),
+    Two { first: u64, second: u64 },
 }
 
 // Which cover, and the number of entries compared.
@@ -26,21 +26,29 @@ pub struct Search {
     pub compared: u64,
 }
 
+// How far d is past a start. Before the start it is 2^64 less what is missing, farther than any size, so that one comparison
+// with a size tells whether a function covers; it compiles to one subtraction.
+fn past_start(start: u64, d: u64) -> u64
+    ensures { λ r. ⌜ r ≡ pastStart start d ⌝ }
+{
+    if start <= d {
+        return d - start;
+    }
+    d + (u64::MAX - start) + 1
+}
+
 // Whether a function of this start and size covers; the start and d are held.
 fn is_within(start: u64, size: u32, d: u64) -> bool
     ensures { λ r. ⌜ ((f z : ℤ) → Held f start → Near z d → r ≡ leZ f z && ltZ z (f +ℤ pos size)) ⌝ }
 {
-    if d < start {
-        return false;
-    }
-    if d - start < size as u64 {
+    if past_start(start, d) < size as u64 {
         return true;
     }
     false
 }
 
 // Whether function i covers.
-pub fn covers_at(section: &[u8], layout: Layout, order: Order, i: u32, d: u64) -> bool
+pub fn covers_at(section: &[u8], layout: Layout, order: Order, i: u64, d: u64) -> bool
     requires { ⌜ TableOf (now section) layout order × (i < layout .functions) ⌝ }
     ensures { λ r. ⌜ ((z : ℤ) → Near z d → r ≡ covers z (functionIn (now (section .entry)) i)) ⌝ }
 {
@@ -49,13 +57,13 @@ pub fn covers_at(section: &[u8], layout: Layout, order: Order, i: u32, d: u64) -
 }
 
 // The first function from index `from` on that covers, and one past the last where none does.
-fn next_covering(section: &[u8], layout: Layout, order: Order, d: u64, from: u32) -> u32
+fn next_covering(section: &[u8], layout: Layout, order: Order, d: u64, from: u64) -> u64
     requires { ⌜ TableOf (now section) layout order × (from ≤ layout .functions) ⌝ }
     ensures { λ r. ⌜ ((z : ℤ) → Near z d → r ≡ firstWhere (λ i. covers z (functionIn (now (section .entry)) i)) (layout .functions - from) from) ⌝ }
     ensures range { λ r. ⌜ r ≤ layout .functions ⌝ }
 {
     let mut i = from;
-    while i < layout.functions {
+    while i < layout.functions as u64 {
         if covers_at(section, layout, order, i, d) {
             return i;
         }
@@ -70,11 +78,11 @@ pub fn scan(section: &[u8], layout: Layout, order: Order, d: u64) -> Cover
     ensures { λ r. ⌜ ((z : ℤ) → Near z d → r ≡ coverOf (covering z (functionsOf (now (section .entry))))) ⌝ }
 {
     let first = next_covering(section, layout, order, d, 0);
-    if first == layout.functions {
+    if first == layout.functions as u64 {
         return Cover::Nobody;
     }
     let second = next_covering(section, layout, order, d, first + 1);
-    if second == layout.functions {
+    if second == layout.functions as u64 {
         return Cover::One(first);
     }
     Cover::Two {

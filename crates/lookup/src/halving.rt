@@ -1,32 +1,43 @@
 // The halving of a sorted section: only the entries compared are read.
-use crate::table::entry_in;
 use numbers::field::Order;
-use section::entry::start_of;
+use numbers::field::u32_at;
+use numbers::held::held_start;
 use section::header::Layout;
 ghost use mathlib.Core.Path.{_≡_};
 ghost use Prim.Native.Nat.{_≤_, _<_};
 ghost use lib.IntN.{ℤ};
-ghost use lib.Signed.{leZ};
-ghost use Rattle.numbers.specs.Held.{Near};
+ghost use Rattle.numbers.specs.Held.{Held, Near};
 ghost use Rattle.section.specs.Meaning.{functionStart, functionsOf};
 ghost use Rattle.lookup.specs.Halving.{landing};
-ghost use Rattle.lookup.specs.Search.{TableOf};
+ghost use Rattle.lookup.specs.Search.{TableOf, positionAt};
 
 // Where the halving ends: one past the last entry that was found to start at most at d, and the number of entries compared.
 pub struct Landing {
-    pub low: u32,
-    pub compared: u32,
+    pub low: u64,
+    pub compared: u64,
 }
 
-// Whether function i starts at most at d.
-fn starts_at_most(section: &[u8], layout: Layout, order: Order, i: u32, d: u64) -> bool
-    requires { ⌜ TableOf (now section) layout order × (i < layout .functions) ⌝ }
-    ensures { λ r. ⌜ ((z : ℤ) → Near z d → r ≡ leZ (functionStart (now (section .entry)) i) z) ⌝ }
+// What the start field at a place counts from: that place under flag 0x4, else the section.
+fn position_at(relative: bool, at: usize) -> usize
+    ensures { λ r. ⌜ r ≡ positionAt relative at ⌝ }
+    ensures range { λ r. ⌜ r ≤ at ⌝ }
 {
-    if start_of(layout.relative, entry_in(section, layout, order, i)) <= d {
-        return true;
+    if relative {
+        return at;
     }
-    false
+    0
+}
+
+// The start of function i, held: of its entry only the start field is read.
+fn start_at(section: &[u8], layout: Layout, order: Order, i: u64) -> u64
+    requires { ⌜ TableOf (now section) layout order × (i < layout .functions) ⌝ }
+    ensures { λ r. ⌜ Held (functionStart (now (section .entry)) i) r ⌝ }
+{
+    let at = (layout.table + 20 * i) as usize;
+    held_start(
+        u32_at(section, at, order),
+        position_at(layout.relative, at) as u32,
+    )
 }
 
 // The halving rule over all entries.
@@ -36,12 +47,12 @@ pub fn halve(section: &[u8], layout: Layout, order: Order, d: u64) -> Landing
     ensures range { λ r. ⌜ r .low ≤ layout .functions ⌝ }
 {
     let mut low = 0;
-    let mut high = layout.functions;
+    let mut high = layout.functions as u64;
     let mut compared = 0;
     while low < high {
-        let middle = low + (high - low) / 2;
+        let middle = (low + high) / 2;
         compared = compared + 1;
-        if starts_at_most(section, layout, order, middle, d) {
+        if start_at(section, layout, order, middle) <= d {
             low = middle + 1;
         } else {
             high = middle;

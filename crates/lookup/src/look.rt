@@ -47,7 +47,7 @@ fn in_block(entry: Entry, past: u64) -> u64
 }
 
 // The row of function i, which covers the PC.
-fn row_for(section: &[u8], layout: Layout, i: u32, address: u64, pc: u64) -> Scan
+fn row_for(section: &[u8], layout: Layout, i: u64, address: u64, pc: u64) -> Scan
     requires { ⌜ RowAsked (now section) layout i (distance address pc) ⌝ }
     ensures { λ r. ⌜ r ≡ rowFor (distance address pc) (functionIn (now (section .entry)) i) ⌝ }
 {
@@ -63,16 +63,14 @@ fn row_for(section: &[u8], layout: Layout, i: u32, address: u64, pc: u64) -> Sca
     )
 }
 
-fn with_row(function: u32, scan: Scan) -> Outcome
+fn with_row(function: u64, scan: Scan) -> Outcome
     ensures { λ r. ⌜ r ≡ withRow function scan ⌝ }
 {
     match scan {
-        Scan::Missed => Outcome::NoRow {
-            function: function as u64,
-        },
+        Scan::Missed => Outcome::NoRow { function: function },
         Scan::Hit { row, number } => Outcome::Found {
             row: row,
-            function: function as u64,
+            function: function,
             number: number as u64,
         },
     }
@@ -86,8 +84,8 @@ fn with_cover(section: &[u8], layout: Layout, cover: Cover, address: u64, pc: u6
         Cover::Nobody => Outcome::NoFunction,
         Cover::One(i) => with_row(i, row_for(section, layout, i, address, pc)),
         Cover::Two { first, second } => Outcome::Dispute {
-            first: first as u64,
-            second: second as u64,
+            first: first,
+            second: second,
         },
     }
 }

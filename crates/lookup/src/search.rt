@@ -16,7 +16,7 @@ ghost use Rattle.section.specs.Meaning.{functionsOf};
 ghost use Rattle.lookup.specs.Search.{HeaderOf, TableOf, landedOn, searchOf};
 
 // Whether the function landed on, the one before `low`, covers. In a sorted section no other one can.
-fn landed_on(section: &[u8], layout: Layout, order: Order, low: u32, d: u64) -> Cover
+fn landed_on(section: &[u8], layout: Layout, order: Order, low: u64, d: u64) -> Cover
     requires { ⌜ TableOf (now section) layout order × (low ≤ layout .functions) ⌝ }
     ensures { λ r. ⌜ ((z : ℤ) → Near z d → r ≡ landedOn z (functionsOf (now (section .entry))) low) ⌝ }
 {
@@ -40,7 +40,7 @@ pub fn find(section: &[u8], layout: Layout, address: u64, pc: u64) -> Search
         let landing = halve(section, layout, order, d);
         return Search {
             cover: landed_on(section, layout, order, landing.low, d),
-            compared: landing.compared as u64,
+            compared: landing.compared,
         };
     }
     Search {

@@ -9,9 +9,9 @@ ghost use Rattle.section.specs.Meaning.{entryIn};
 ghost use Rattle.lookup.specs.Search.{TableOf};
 
 // Entry i.
-pub fn entry_in(section: &[u8], layout: Layout, order: Order, i: u32) -> Entry
+pub fn entry_in(section: &[u8], layout: Layout, order: Order, i: u64) -> Entry
     requires { ⌜ TableOf (now section) layout order × (i < layout .functions) ⌝ }
     ensures { λ r. ⌜ r ≡ entryIn (now (section .entry)) i ⌝ }
 {
-    entry_at(section, order, layout.table as u32 + 20 * i)
+    entry_at(section, order, (layout.table + 20 * i) as u32)
 }

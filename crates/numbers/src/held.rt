@@ -8,19 +8,15 @@ const LIFT: u64 = 0x1_0000_0000;
 // Above every start and every end, as they are held: 2^34.
 const FAR: u64 = 0x4_0000_0000;
 // The least field of 4 bytes that stands for a negative number: 2^31.
-const NEGATIVE: u32 = 0x8000_0000;
+const NEGATIVE: u64 = 0x8000_0000;
 
 // A start from its field and what it counts from: the field's own position under flag 0x4, else 0.
 pub fn held_start(field: u32, position: u32) -> u64
     ensures { λ r. ⌜ r ≡ raised (startAt field position) ⌝ }
     ensures range { λ r. ⌜ Held (startAt field position) r ⌝ }
 {
-    let up = field as u64 + position as u64;
-    // A negative field stands for 2^32 less than its bits say, which is just the lift.
-    if field < NEGATIVE {
-        return up + LIFT;
-    }
-    up
+    // The remainder changes the field's sign bit, so that it counts from the least negative number up.
+    (field as u64 + NEGATIVE) % LIFT + NEGATIVE + position as u64
 }
 
 // PC minus section address, exact and never wrapped; beyond every start and end it is kept at 0 or at 2^34.

@@ -1,20 +1,25 @@
-// Checks every stored section and prints its number and its index. `stdout` holds what the independent reader said.
+// Checks every stored section and prints its verdict, then looks up every stored question on it and prints the answer. `stdout`
+// holds what the independent reader said.
 //
-// The file data/cases holds the sections one after the other, each behind a head of 48 bytes: its name in 38 bytes, a space,
-// its length in 8 decimal digits, and a line's end.
+// The file data/cases holds the cases one after the other. A case is a head of 57 bytes (its name in 38, a space, the section's
+// length in 8 decimal digits, a space, the number of questions in 8, a line's end), the section's bytes, and 16 bytes for each
+// question: the section's address and the PC, 8 bytes each, little-endian.
+mod show;
+
 ghost use Prim.Native.Nat.{_+_, _<_, _≤_};
 ghost use lib.ListN.{length};
 ghost use Rattle.io.specs.Counts.{Counts};
+use crate::show::say;
+use crate::show::show_answer;
+use crate::show::show_question;
+use crate::show::show_verdict;
 use accept::section_check::check;
-use accept::verdict::Verdict;
-use libc::STDOUT_FILENO;
+use lookup::look::lookup;
+use numbers::field::Order;
+use numbers::field::u64_at;
 
 // More than the cases have, so that a file that fills it shows as cut.
 const ROOM: usize = 1_000_000;
-
-fn say(text: &[u8]) {
-    io::write_all(STDOUT_FILENO, text);
-}
 
 // The digit that a byte of text stands for.
 fn digit(text: u8) -> usize
@@ -37,29 +42,32 @@ fn four_at(head: &[u8], at: usize) -> usize
         + digit(head[at + 3])
 }
 
+// The number that eight digits make.
+fn eight_at(head: &[u8], at: usize) -> usize
+    requires { ⌜ at + 8 ≤ length (now head) ⌝ }
+    ensures { λ r. ⌜ r < 100000000 ⌝ }
+{
+    four_at(head, at) * 10000 + four_at(head, at + 4)
+}
+
 // How long the section behind a head is.
 fn length_in(head: &[u8]) -> usize
     ensures { λ r. ⌜ r < 100000000 ⌝ }
 {
-    if head.len() < 48 {
+    if head.len() < 57 {
         return 0;
     }
-    four_at(head, 39) * 10000 + four_at(head, 43)
+    eight_at(head, 39)
 }
 
-fn show(answer: Verdict) {
-    match answer {
-        Verdict::Accepted => {
-            say(b" accepted\n");
-        }
-        Verdict::Refused { number, index } => {
-            say(b" refused ");
-            io::print_decimal(STDOUT_FILENO, number);
-            say(b" at ");
-            io::print_decimal(STDOUT_FILENO, index);
-            say(b"\n");
-        }
+// How many bytes its questions have.
+fn asked_in(head: &[u8]) -> usize
+    ensures { λ r. ⌜ r < 1600000000 ⌝ }
+{
+    if head.len() < 57 {
+        return 0;
     }
+    16 * eight_at(head, 48)
 }
 
 fn show_name(head: &[u8]) {
@@ -72,18 +80,33 @@ fn show_cut() {
     say(b"the last case is cut\n");
 }
 
+// Answers every question on a section.
+fn ask(section: &[u8], questions: &[u8]) {
+    let mut at = 0;
+    while 16 <= questions.len() - at {
+        let address = u64_at(questions, at, Order::Little);
+        let pc = u64_at(questions, at + 8, Order::Little);
+        show_question(address, pc);
+        show_answer(lookup(section, address, pc));
+        at = at + 16;
+    }
+}
+
 fn replay(cases: &[u8]) {
     let mut at = 0;
-    while 48 <= cases.len() - at {
-        let start = at + 48;
+    while 57 <= cases.len() - at {
+        let start = at + 57;
         let length = length_in(&cases[at..start]);
-        if cases.len() - start < length {
+        let asked = asked_in(&cases[at..start]);
+        if cases.len() - start < length + asked {
             show_cut();
             return;
         }
-        let end = start + length;
+        let middle = start + length;
+        let end = middle + asked;
         show_name(&cases[at..start]);
-        show(check(&cases[start..end]));
+        show_verdict(check(&cases[start..middle]));
+        ask(&cases[start..middle], &cases[middle..end]);
         at = end;
     }
 }

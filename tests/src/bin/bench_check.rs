@@ -1,8 +1,8 @@
 //! Times the library's check of a section against the independent reader's, turn about in one run.
 
 use std::hint::black_box;
-use std::time::{Duration, Instant};
 use suntimpani_tests::reader::{self, Verdict};
+use suntimpani_tests::timing::Times;
 use suntimpani_tests::{cases, large, library};
 
 const ROUNDS: usize = 31;
@@ -18,30 +18,20 @@ fn main() {
 fn compare(name: &str, section: &[u8], times: u32) {
     assert_eq!(library::check(section), Verdict::Accepted, "the library, of {name}");
     assert_eq!(reader::check(section), Verdict::Accepted, "the reader, of {name}");
-    let (mut by_library, mut by_reader) = (Vec::new(), Vec::new());
+    let (mut by_library, mut by_reader) = (Times::default(), Times::default());
     for _ in 0..ROUNDS {
-        by_library.push(timed(library::check, section, times));
-        by_reader.push(timed(reader::check, section, times));
+        by_library.take(times, || repeat(library::check, section, times));
+        by_reader.take(times, || repeat(reader::check, section, times));
     }
     println!("{name}: {} bytes, {ROUNDS} rounds of {times}", section.len());
-    let library = report("library", by_library);
-    let reader = report("reader", by_reader);
-    println!("  library / reader, medians  {:.2}", library.as_secs_f64() / reader.as_secs_f64());
+    by_library.report("library");
+    by_reader.report("reader");
+    let ratio = by_library.median().as_secs_f64() / by_reader.median().as_secs_f64();
+    println!("  library / reader, medians  {ratio:.2}");
 }
 
-fn timed(check: fn(&[u8]) -> Verdict, section: &[u8], times: u32) -> Duration {
-    let begin = Instant::now();
+fn repeat(check: fn(&[u8]) -> Verdict, section: &[u8], times: u32) {
     for _ in 0..times {
         black_box(check(black_box(section)));
     }
-    begin.elapsed() / times
-}
-
-// Prints the median and the minimum, and returns the median.
-fn report(who: &str, mut times: Vec<Duration>) -> Duration {
-    times.sort();
-    let median = times[times.len() / 2];
-    let microseconds = |time: Duration| time.as_secs_f64() * 1e6;
-    println!("  {who:<8} median {:>10.1} us   minimum {:>10.1} us", microseconds(median), microseconds(times[0]));
-    median
 }

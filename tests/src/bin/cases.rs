@@ -5,7 +5,8 @@
 
 use std::fs;
 use std::process::ExitCode;
-use suntimpani_tests::{cases, in_repository, pack, reader};
+use suntimpani_tests::cases::{self, Case, Question};
+use suntimpani_tests::{in_repository, pack, reader};
 
 const PACK: &str = "crates/replay/data/cases";
 const EXPECTED: &str = "crates/replay/stdout";
@@ -30,22 +31,51 @@ fn main() -> ExitCode {
 }
 
 struct Made {
-    count: usize,
+    cases: usize,
+    questions: usize,
     pack: Vec<u8>,
     expected: String,
 }
 
-fn made() -> Made {
-    let mut made = Made { count: 0, pack: Vec::new(), expected: String::new() };
-    for case in cases::all() {
-        let verdict = reader::check(&case.section);
-        assert_eq!(verdict, case.expected, "{}: the reader and the case's author disagree", case.name);
-        pack::put_case(&mut made.pack, &case.name, &case.section);
-        made.expected += &pack::line(&case.name, verdict);
-        made.count += 1;
+impl Made {
+    fn counts(&self) -> String {
+        format!("{} cases with {} questions", self.cases, self.questions)
     }
-    assert!(made.pack.len() < pack::LIMIT, "the pack has {} bytes, too many", made.pack.len());
+}
+
+fn made() -> Made {
+    let mut made = Made { cases: 0, questions: 0, pack: Vec::new(), expected: String::new() };
+    for case in cases::all() {
+        made.pack.extend(packed(&case));
+        made.expected += &expected(&case);
+        made.cases += 1;
+        made.questions += case.questions.len();
+    }
+    let (stored, text) = (made.pack.len(), made.expected.len());
+    assert!(stored < pack::LIMIT, "the pack has {stored} bytes, too many");
+    assert!(text < pack::EXPECTED_LIMIT, "what is expected has {text} bytes, too many");
     made
+}
+
+fn packed(case: &Case) -> Vec<u8> {
+    let questions: Vec<(u64, u64)> = case.questions.iter().map(|asked| (asked.address, asked.pc)).collect();
+    let mut one = Vec::new();
+    pack::put_case(&mut one, &case.name, &case.section, &questions);
+    one
+}
+
+// What the reader says, once it is seen to be what the case's author states.
+fn expected(case: &Case) -> String {
+    let name = &case.name;
+    let verdict = reader::check(&case.section);
+    assert_eq!(verdict, case.expected, "{name}: the reader and the case's author disagree");
+    let mut text = pack::line(name, verdict);
+    for &Question { address, pc, expected } in &case.questions {
+        let answer = reader::lookup(&case.section, address, pc);
+        assert_eq!(answer, expected, "{name} at {address:x}, PC {pc:x}: the reader and the author disagree");
+        text += &pack::answer_line(address, pc, &answer);
+    }
+    text
 }
 
 fn write(made: &Made) -> Result<String, String> {
@@ -55,12 +85,8 @@ fn write(made: &Made) -> Result<String, String> {
         fs::create_dir_all(folder).map_err(|error| format!("{path}: {error}"))?;
         fs::write(&file, bytes).map_err(|error| format!("{path}: {error}"))?;
     }
-    Ok(format!(
-        "{} cases written: {} bytes in {PACK}, {} in {EXPECTED}",
-        made.count,
-        made.pack.len(),
-        made.expected.len()
-    ))
+    let (stored, text) = (made.pack.len(), made.expected.len());
+    Ok(format!("{} written: {stored} bytes in {PACK}, {text} in {EXPECTED}", made.counts()))
 }
 
 fn test(made: &Made) -> Result<String, String> {
@@ -72,7 +98,7 @@ fn test(made: &Made) -> Result<String, String> {
             return Err(format!("{path}: byte {at} differs, in {case} ({has} bytes stored, {needs} made)"));
         }
     }
-    Ok(format!("{} cases: both stored files are as made ({} bytes of cases)", made.count, made.pack.len()))
+    Ok(format!("{}: both stored files are as made ({} bytes of cases)", made.counts(), made.pack.len()))
 }
 
 fn first_difference(stored: &[u8], made: &[u8]) -> Option<usize> {
@@ -85,13 +111,10 @@ fn first_difference(stored: &[u8], made: &[u8]) -> Option<usize> {
 fn case_at(made: &Made, path: &str, at: usize) -> String {
     let mut end = 0;
     for case in cases::all() {
-        let mut one = Vec::new();
-        pack::put_case(&mut one, &case.name, &case.section);
-        let line = pack::line(&case.name, case.expected);
-        end += if path == PACK { one.len() } else { line.len() };
+        end += if path == PACK { packed(&case).len() } else { expected(&case).len() };
         if at < end {
             return case.name;
         }
     }
-    format!("what follows the last of {} cases", made.count)
+    format!("what follows the last of {} cases", made.cases)
 }

@@ -1,20 +1,26 @@
 //! Cases that look odd and break no rule: what document 01 ignores or allows.
 
-use super::{case, sound, Case, ACCEPTED};
+use super::questions::{found, no_function, no_row, Question};
+use super::{asked_at_edges, case, sound, Case, ACCEPTED};
 use crate::maker::{FirstRow, Function, Machine, Row, Section, Start, FRAME_POINTER, RELATIVE};
+use crate::reader::{self, Base, Place};
+use crate::ADDRESS;
 
 type Edit = fn(&mut Section);
 
 pub fn all() -> Vec<Case> {
     let mut cases = Vec::new();
-    for machine in Machine::ALL {
-        for (name, edit) in EDITS {
+    for (turn, machine) in Machine::ALL.into_iter().enumerate() {
+        for (place, (name, edit)) in EDITS.into_iter().enumerate() {
             let mut section = sound(machine);
             edit(&mut section);
-            cases.push(case(format!("ok_{name}_{}", machine.tag()), &section, ACCEPTED));
+            let name = format!("ok_{name}_{}", machine.tag());
+            // Lookups on one machine for each edit are enough to be stored.
+            let asked = place % 3 == turn;
+            cases.push(if asked { asked_at_edges(name, &section) } else { case(name, &section, ACCEPTED) });
         }
-        let inside = rows_read_twice(machine);
-        cases.push(case(format!("ok_rows_shared_in_part_{}", machine.tag()), &inside, ACCEPTED));
+        let inside = case(format!("ok_rows_shared_in_part_{}", machine.tag()), &rows_read_twice(machine), ACCEPTED);
+        cases.push(inside.asked(of_rows_read_twice(machine)));
     }
     cases
 }
@@ -79,4 +85,66 @@ fn rows_read_twice(machine: Machine) -> Section {
     let mut section = Section::new(machine);
     section.functions = vec![Function::new(0, 16, 0, rows), second];
     section
+}
+
+// Places 16 to 31 are the second function's: its rows start at 2 and 3, and are numbered from 0 in it.
+fn of_rows_read_twice(machine: Machine) -> Vec<Question> {
+    let row = |start| reader::Row {
+        start,
+        base: Base::Sp,
+        cfa_offset: 8,
+        ra: if machine == Machine::Amd64 { Place::AtOffset(-8) } else { Place::Register },
+        fp: Place::Register,
+        signed: false,
+    };
+    let answers = [
+        (0, found(0, 0, row(0), 2)),
+        (2, found(0, 2, row(2), 2)),
+        (15, found(0, 3, row(3), 2)),
+        (16, no_row(1, 2)),
+        (17, no_row(1, 2)),
+        (18, found(1, 0, row(2), 2)),
+        (19, found(1, 1, row(3), 2)),
+        (31, found(1, 1, row(3), 2)),
+        (32, no_function(2)),
+    ];
+    answers.map(|(d, expected)| Question { address: ADDRESS, pc: ADDRESS + d, expected }).to_vec()
+}
+
+#[cfg(test)]
+mod tests {
+    use super::*;
+    use crate::reader::lookup;
+
+    /// The edits of what changes no answer: all it can move are rows and starts of the same functions.
+    const IGNORED: [&str; 10] = [
+        "key_bit",
+        "padding",
+        "frame_pointer_flag",
+        "repeat_without_pcmask",
+        "unused_before",
+        "unused_between",
+        "unused_after",
+        "rows_in_another_order",
+        "auxiliary_1",
+        "auxiliary_255",
+    ];
+
+    #[test]
+    fn what_is_ignored_changes_no_answer() {
+        for machine in Machine::ALL {
+            let plain = asked_at_edges("plain", &sound(machine));
+            for name in IGNORED {
+                let (_, edit) = EDITS.into_iter().find(|(other, _)| *other == name).expect("an edit of this name");
+                let mut section = sound(machine);
+                edit(&mut section);
+                let (edited, unedited) = (section.bytes(), &plain.section);
+                assert_ne!(edited, *unedited, "{name} changes nothing");
+                for Question { address, pc, .. } in &plain.questions {
+                    let answers = (lookup(&edited, *address, *pc), lookup(unedited, *address, *pc));
+                    assert_eq!(answers.0, answers.1, "{name} on {}, PC {pc:x}", machine.tag());
+                }
+            }
+        }
+    }
 }

@@ -1,6 +1,6 @@
 //! Cases of rules 1 and 3 to 8: the header alone, on both sides of every edge.
 
-use super::{case, refused, sound, Case, ACCEPTED};
+use super::{asked_at_edges, case, refused, sound, Case, ACCEPTED};
 use crate::maker::{Machine, Section};
 use crate::reader::Verdict;
 use Machine::{Aarch64, Aarch64Big, Amd64};
@@ -38,11 +38,9 @@ fn lengths() -> Vec<Case> {
             ("8_one_byte_long", &longer[..], refused(8, 0)),
             ("ok_sound", &whole[..], ACCEPTED),
         ];
-        cases.extend(sections.map(|(name, section, expected)| Case {
-            name: format!("{name}_{tag}"),
-            section: section.to_vec(),
-            expected,
-        }));
+        let stored =
+            sections.map(|(name, section, expected)| Case::new(format!("{name}_{tag}"), section.to_vec(), expected));
+        cases.extend(stored);
     }
     cases
 }
@@ -102,17 +100,26 @@ const FIELDS: &[(&str, Machine, Edit, Verdict)] = &[
     ("8_auxiliary_not_counted", Aarch64, |s| (s.auxiliary, s.claims.auxiliary) = (vec![0; 4], Some(0)), refused(8, 0)),
 ];
 
-// Every flag alone and every set of the known ones; the entries are in order, so that sorted is true of them.
+// Every flag alone and every set of the known ones; the entries are in order, so that sorted is true of them. Each
+// known set is asked on one machine.
 fn flags() -> Vec<Case> {
-    let known = (0..8).map(|flags| (format!("ok_flags_{flags}"), flags, ACCEPTED));
-    let unknown = (3..8).map(|bit| (format!("5_flag_bit_{bit}"), 1 << bit, refused(5, 0)));
-    let with_known = [("5_flags_0f".to_string(), 0x0f, refused(5, 0)), ("5_flags_ff".to_string(), 0xff, refused(5, 0))];
+    let unknown = (3..8).map(|bit| (format!("5_flag_bit_{bit}"), 1 << bit));
+    let with_known = [("5_flags_0f".to_string(), 0x0f), ("5_flags_ff".to_string(), 0xff)];
     let mut cases = Vec::new();
-    for machine in Machine::ALL {
-        for (name, flags, expected) in known.clone().chain(unknown.clone()).chain(with_known.clone()) {
+    for (turn, machine) in Machine::ALL.into_iter().enumerate() {
+        let with = |flags: u8| {
             let mut section = sound(machine);
             section.flags = flags;
-            cases.push(case(format!("{name}_{}", machine.tag()), &section, expected));
+            section
+        };
+        for flags in 0..8 {
+            let name = format!("ok_flags_{flags}_{}", machine.tag());
+            let asked = usize::from(flags) % 3 == turn;
+            let known = with(flags);
+            cases.push(if asked { asked_at_edges(name, &known) } else { case(name, &known, ACCEPTED) });
+        }
+        for (name, flags) in unknown.clone().chain(with_known.clone()) {
+            cases.push(case(format!("{name}_{}", machine.tag()), &with(flags), refused(5, 0)));
         }
     }
     cases

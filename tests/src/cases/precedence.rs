@@ -27,8 +27,7 @@ const HEADER_DAMAGES: [HeaderDamage; 6] = [
 // Every pair of header rules, every tail of them together, and each with an entry and the sum broken too.
 fn headers() -> Vec<Case> {
     let everything = [0xff; 27];
-    let mut cases =
-        vec![Case { name: "1_all_wrong".to_string(), section: everything.to_vec(), expected: refused(1, 0) }];
+    let mut cases = vec![Case::new("1_all_wrong", everything.to_vec(), refused(1, 0))];
     for (place, &(number, first)) in HEADER_DAMAGES.iter().enumerate() {
         let later = &HEADER_DAMAGES[place + 1..];
         for &(other, second) in later {

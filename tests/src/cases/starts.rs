@@ -1,6 +1,6 @@
 //! Cases of rule 14: entries in order, by effective start, exactly.
 
-use super::{case, refused, sound, Case, ACCEPTED, SECOND_MIDDLE_LAST};
+use super::{asked_at_edges, case, refused, sound, Case, ACCEPTED, SECOND_MIDDLE_LAST};
 use crate::maker::{Function, Machine, Section, Start, RELATIVE, SORTED};
 use crate::reader::Verdict;
 
@@ -118,13 +118,14 @@ fn edges(group: &str, flags: u8, table: &[Edge]) -> Vec<Case> {
     cases
 }
 
-// Without the sorted flag any order will do.
+// Without the sorted flag any order will do; a lookup finds that most places are covered twice, and none has a row.
 fn unsorted() -> Vec<Case> {
     let mut cases = Vec::new();
     for machine in Machine::ALL {
         for (name, flags) in [("", 0), ("_rel", RELATIVE)] {
             let section = of_fields(machine, flags, &[(100, 50), (0, WIDEST), (MIN, 1), (MAX, 1), (100, 50)]);
-            cases.push(case(format!("ok_unsorted_any_order{name}_{}", machine.tag()), &section, OK));
+            let name = format!("ok_unsorted_any_order{name}_{}", machine.tag());
+            cases.push(asked_at_edges(name, &section));
         }
     }
     cases

@@ -58,6 +58,7 @@ next-covering-spec =
     Inv-loop
     μ-loop
     loop-holds
+    (λ c. search needs)
     (λ c κs. search needs)
     returns
     (λ c. search needs)

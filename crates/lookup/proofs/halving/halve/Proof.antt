@@ -3,8 +3,8 @@
 use borrow.Author.Needs.{needs}
 use native.Mathlib.Numerals.{add-one}
 use native.Mathlib.Omega.{arith}
-use mathlib.Core.Path.{sym, _∙_}
 use Prim.Native.Nat.{_+_, _-_, _/_}
+use Rattle.numbers.proofs.HeldLaws.{from-start, before-start}
 use Rattle.lookup.proofs.HalvingTurns.{Halved, halving-begins, middle-within, goes-up, goes-down, halving-ends}
 use Rattle.lookup.proofs.halving.halve.Statement.{statement}
 use Rattle.lookup.proofs.halving.halve.Tie as tie
@@ -16,13 +16,18 @@ abbrev μ-loop : tie.MeasureT-loop
 μ-loop section layout order d low₀ high₀ compared₀ low high compared = high - low
 
 loop-holds : tie.Need-loop-holds Inv-loop μ-loop
-loop-holds c = halving-begins _ (c .before .pre .header)
+loop-holds c = halving-begins _ (c .before .before .pre .header)
+
+add-middle : tie.Need-add-middle Inv-loop μ-loop
+add-middle c =
+    let loop = c .before .loop in
+    omega (arith, loop .inv .ordered, loop .inv .within, loop .inv .few)
 
 add-compared : tie.Need-add-compared Inv-loop μ-loop
 add-compared c = let loop = c .before .loop in omega (arith, loop .inv .spent, loop .inv .few, c .loop-test .taken)
 
-starts-at-most-requires : tie.Need-starts-at-most-requires Inv-loop μ-loop
-starts-at-most-requires c κs = (c .before .before .before .pre, middle-within (c .before .loop .inv) (c .loop-test .taken))
+start-at-requires : tie.Need-start-at-requires Inv-loop μ-loop
+start-at-requires c κs = (c .before .before .before .before .pre, middle-within (c .before .loop .inv) (c .loop-test .taken))
 
 add-low : tie.Need-add-low Inv-loop μ-loop
 add-low c =
@@ -33,14 +38,14 @@ loop-again : tie.Need-loop-again Inv-loop μ-loop
 loop-again c =
     let turn = c .before .before in
     let loop = turn .before .loop in
-    rw (add-one (loop .low + (loop .high - loop .low) / 2), add-one (loop .compared))
-    (goes-up (turn .before .loop .inv) (turn .loop-test .taken) λ z near. sym (c .before .starts-at-most .ensures z near) ∙ c .if1 .taken)
+    rw (add-one ((loop .low + loop .high) / 2), add-one (loop .compared))
+    (goes-up (turn .before .loop .inv) (turn .loop-test .taken) λ z near. from-start (c .before .start-at .ensures) near (c .if1 .taken))
 
 loop-again-2 : tie.Need-loop-again-2 Inv-loop μ-loop
 loop-again-2 c =
     let turn = c .before .before in
     rw (add-one (turn .before .loop .compared))
-    (goes-down (turn .before .loop .inv) (turn .loop-test .taken) λ z near. sym (c .before .starts-at-most .ensures z near) ∙ c .if1 .left)
+    (goes-down (turn .before .loop .inv) (turn .loop-test .taken) λ z near. before-start (c .before .start-at .ensures) near (c .if1 .left))
 
 returns : tie.Need-returns Inv-loop μ-loop
 returns c =
@@ -53,11 +58,11 @@ halve-spec =
     (tie.spec
     Inv-loop
     μ-loop
+    (λ c. search needs)
     loop-holds
-    (λ c. search needs)
-    (λ c. search needs)
+    add-middle
     add-compared
-    starts-at-most-requires
+    start-at-requires
     add-low
     (λ c. search needs)
     loop-again

@@ -13,7 +13,7 @@ use Rattle.accept.proofs.AcceptedLaws.{area-inside}
 use Rattle.accept.proofs.RowLaws.{entry-sound}
 use Rattle.lookup.specs.Rows.{rowFor}
 use Rattle.lookup.proofs.LookLaws.{accepted-header, past-start, offset-held, fault-free}
-use Rattle.lookup.proofs.TableLaws.{header-obeys}
+use Rattle.lookup.proofs.TableLaws.{header-obeys, start-held}
 use Rattle.lookup.proofs.look.row_for.Statement.{statement}
 use Rattle.lookup.proofs.look.row_for.Tie as tie
 
@@ -36,7 +36,7 @@ held : (c : tie.After-start-of)
     (c .start-of .result)
 held c =
     let entry = c .before .before in
-    rw (entry .before .before .before .pre .section .layout-is, entry .entry-in .ensures) at (c .start-of .ensures .1)
+    start-held (accepted-header (entry .before .before .before .pre .section)) _ (entry .entry-in .ensures) (c .start-of .ensures .1)
 
 small : (c : tie.After-entry-in)
     → entryIn (now (c .before .before .before .args .section)) (c .before .before .before .args .i) .size < 2 ^ 32

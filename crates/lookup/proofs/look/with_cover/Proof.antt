@@ -47,8 +47,6 @@ with-cover-spec =
     row-for-requires
     (λ c κs. search needs)
     (λ c. search needs)
-    (λ c. search needs)
-    (λ c. search needs)
     returns
     returns-2
     returns-3)

@@ -35,10 +35,10 @@ scan-requires c κs = table (c .before)
 returns : tie.Need-returns
 unfolding searchOf coverBy compared
 returns c =
-    let halved = c .before .before in
+    let halved = c .before in
     let near = held (halved .before .before) in
     rw (halved .before .if1 .taken)
-    (rw (c .before .landed-on .ensures _ near, halved .halve .ensures .0 _ near))
+    (rw (c .landed-on .ensures _ near, halved .halve .ensures .0 _ near))
 
 returns-2 : tie.Need-returns-2
 unfolding searchOf coverBy compared
@@ -56,7 +56,6 @@ find-spec =
     (λ c κs. search needs)
     halve-requires
     landed-on-requires
-    (λ c. search needs)
     returns
     scan-requires
     (λ c. search needs)

@@ -1,0 +1,39 @@
+-- Whether d, as it is held, is within a function: how far it is past the start tells, by one comparison with the size.
+-- Assumes nothing.
+use mathlib.Core.Path.{_≡_}
+use mathlib.Core.Bool.{true, false, _&&_}
+use Prim.Native.Nat.{ℕ, _+_, _-_, _^_, _≤_, _<_}
+use native.Mathlib.Omega.{arith}
+use lib.Dec.{leb}
+use lib.IntN.{ℤ, pos, _+ℤ_}
+use lib.Signed.{leZ, ltZ}
+use borrow.Author.Tests.{leb-true, leb-false}
+use Rattle.numbers.specs.Held.{Held, Near}
+use Rattle.numbers.proofs.HeldLaws.{from-start, before-start, before-end, from-end}
+use Rattle.lookup.specs.Search.{pastStart}
+use Rattle.lookup.proofs.CoveringLaws.{by-value}
+
+pub past-from : (h n : ℕ) → leb h n ≡ true → pastStart h n ≡ n - h
+unfolding pastStart
+past-from h n e = rw (e, pastStart)
+
+pub past-before : (h n : ℕ) → leb h n ≡ false → pastStart h n ≡ n + 2 ^ 64 - h
+unfolding pastStart
+past-before h n e = rw (e, pastStart)
+
+module _ {start d : ℤ} {h n : ℕ} (held : Held start h) (near : Near d n) (size : ℕ) (small : size < 2 ^ 32) where
+  pub inside : pastStart h n < size → (leZ start d && ltZ d (start +ℤ pos size)) ≡ true
+  inside lt =
+      by-value (leb h n)
+      (λ e.
+      let from : h ≤ n = leb-true h n e in
+      rw (from-start held near from) (before-end size held near small (omega (arith, past-from h n e))))
+      (λ e. absurd (omega (arith, past-before h n e, held .room, leb-false h n e)))
+
+  pub outside : size ≤ pastStart h n → (leZ start d && ltZ d (start +ℤ pos size)) ≡ false
+  outside le =
+      by-value (leb h n)
+      (λ e.
+      let from : h ≤ n = leb-true h n e in
+      rw (from-start held near from) (from-end size held near small (omega (arith, past-from h n e))))
+      (λ e. rw (before-start held near (leb-false h n e)))
