@@ -40,6 +40,26 @@ module _ (atMost : ℕ → Bool) where
       (λ t. by-value (atMost ((low + high) / 2)) (up (ltb-true low high t)) (down (ltb-true low high t)))
       (λ t. stop (ltb-false low high t))
 
+  -- ---- the rule ends by itself
+
+  -- where there are as many turns as entries between low and high, more of them change nothing
+  pub turns-enough : (turns more low high compared : ℕ) → turns ≤ more → high ≤ low + turns
+      → halve atMost more low high compared ≡ halve atMost turns low high compared
+  turns-enough zero more low high compared fewer le =
+      halve-stop more low high compared (omega arith) ∙ sym (halve-stop zero low high compared (omega arith))
+  turns-enough (suc turns) zero low high compared fewer le = absurd (omega arith)
+  turns-enough (suc turns) (suc more) low high compared fewer le =
+      by-turn low high
+      (λ over. halve-stop (suc more) low high compared over ∙ sym (halve-stop (suc turns) low high compared over))
+      (λ less e.
+      halve-up more low high compared less e
+      ∙ turns-enough turns more (suc ((low + high) / 2)) high (suc compared) (omega arith) (omega arith)
+      ∙ sym (halve-up turns low high compared less e))
+      (λ less e.
+      halve-down more low high compared less e
+      ∙ turns-enough turns more low ((low + high) / 2) (suc compared) (omega arith) (omega arith)
+      ∙ sym (halve-down turns low high compared less e))
+
   -- ---- how many are compared
 
   -- fewer than 2 ^ j entries are left: at most j of them are compared

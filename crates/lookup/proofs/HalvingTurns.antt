@@ -16,7 +16,7 @@ use Rattle.section.specs.declared.header.Layout.{Layout}
 use Rattle.accept.specs.Rules.{functionCount}
 use Rattle.accept.proofs.AcceptedLaws.{few-functions}
 use Rattle.lookup.specs.Halving.{halve, noFunction, startsAtMost, landing}
-use Rattle.lookup.specs.Search.{HeaderOf}
+use Rattle.lookup.specs.Inner.{HeaderOf}
 use Rattle.lookup.proofs.HalvingLaws.{halve-up, halve-down, halve-stop}
 use Rattle.lookup.proofs.TableLaws.{header-obeys}
 

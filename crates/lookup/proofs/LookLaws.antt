@@ -22,7 +22,7 @@ use Rattle.accept.proofs.Exactly.{header-exactly-when}
 use Rattle.lookup.specs.Covering.{covers, covering, coverOf}
 use Rattle.lookup.specs.Halving.{noFunction}
 use Rattle.lookup.specs.Rows.{inBlock, offsetWithin}
-use Rattle.lookup.specs.Search.{HeaderOf, AcceptedOf, RowAsked}
+use Rattle.lookup.specs.Inner.{HeaderOf, AcceptedOf, RowAsked}
 use Rattle.lookup.specs.declared.covering.Cover.{Cover}
 use Rattle.lookup.specs.declared.covering.Cover.the-variants.{Nobody, One, Two}
 use Rattle.lookup.proofs.CoveringLaws.{by-value, OnlyAt, none-cover, one-covers, two-cover, Coverage, no-one, just-one, two-or-more, cover-cases}

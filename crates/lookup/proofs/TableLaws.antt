@@ -15,7 +15,8 @@ use Rattle.section.specs.declared.header.Layout.{Layout}
 use Rattle.accept.specs.Rules.{HeaderObeys, functionCount}
 use Rattle.accept.proofs.AcceptedLaws.{area-inside, entry-inside}
 use Rattle.accept.proofs.Exactly.{header-exactly-when}
-use Rattle.lookup.specs.Search.{HeaderOf, TableOf, positionAt}
+use Rattle.lookup.specs.Inner.{HeaderOf, TableOf}
+use Rattle.lookup.specs.Search.{positionAt}
 
 -- the header obeys its rules
 pub header-obeys : {s : List ℕ} {layout : Layout} → HeaderOf s layout → HeaderObeys s

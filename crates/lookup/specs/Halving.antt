@@ -10,7 +10,8 @@ use Rattle.section.specs.Meaning.{Function, plain}
 use Rattle.lookup.specs.declared.halving.Landing.{Landing}
 
 -- "while low < high, compare entry (low + high) / 2 rounded down; start at most d moves low to one past it, otherwise high
--- to it; each comparison counts one." The first number only bounds the turns; there are never more than entries.
+-- to it; each comparison counts one." The first number bounds the turns: with as many as there are entries, more change nothing
+-- (`turns-enough`).
 unfoldable pub halve : (ℕ → Bool) → ℕ → ℕ → ℕ → ℕ → Landing
 halve atMost zero low high compared = record { low = low; compared = compared }
 halve atMost (suc turns) low high compared =

@@ -1,47 +1,21 @@
--- How the covering function is found: a section that is not sorted is scanned, a sorted one is halved. It is defined on any
--- list of functions; on an accepted section it finds what `covering` says (`search-finds-covering`).
-use Prim.Native.Nat.{ℕ, zero, suc, _+_, _-_, _^_, _<_}
-use mathlib.Core.Path.{_≡_}
+-- How it is looked for: a section that is not sorted is scanned, a sorted one is halved, and the rows of one function are walked
+-- until one starts too late. Defined on any list of functions and any rows; on an accepted section it comes to what `covering`
+-- and `lastRow` say (`halving-finds-covering`, `stop-last`).
+use Prim.Native.Nat.{ℕ, zero, suc, _+_, _-_, _^_}
 use mathlib.Core.Bool.{Bool, true, false}
 use mathlib.Core.List.{List}
 use lib.Dec.{leb}
 use lib.IntN.{ℤ}
 use lib.ListN.{getD}
 use Rattle.numbers.specs.declared.field.Order.{Order}
-use Rattle.section.specs.Header.{layoutOf, orderOf}
-use Rattle.section.specs.Meaning.{Function, functionIn}
+use Rattle.section.specs.Meaning.{Function}
 use Rattle.section.specs.Row.{rowPlace, rowStart}
-use Rattle.section.specs.declared.header.Layout.{Layout}
-use Rattle.accept.specs.Checks.{headerFault, verdict}
-use Rattle.accept.specs.declared.verdict.Fault.the-variants.{Sound}
-use Rattle.accept.specs.declared.verdict.Verdict.the-variants.{Accepted}
 use Rattle.lookup.specs.Covering.{covers, covering, coverOf}
 use Rattle.lookup.specs.Halving.{noFunction, landing, compared}
 use Rattle.lookup.specs.declared.covering.Cover.{Cover}
 use Rattle.lookup.specs.declared.covering.Cover.the-variants.{Nobody, One}
-use Rattle.lookup.specs.declared.covering.Search.{Search}
+use Rattle.lookup.specs.declared.search.Search.{Search}
 use Rattle.lookup.specs.declared.rows.Stop.{Stop}
-
--- what a function asks that works on a section with a sound header: the values beside it are the section's own
-pub record HeaderOf (s : List ℕ) (layout : Layout) : Type 0 where
-  pub sound : headerFault s ≡ Sound
-  pub layout-is : layout ≡ layoutOf s
-
--- the same, with the section's byte order beside it
-pub record TableOf (s : List ℕ) (layout : Layout) (order : Order) : Type 0 where
-  pub header : HeaderOf s layout
-  pub order-is : order ≡ orderOf s
-
--- what a function asks that works on a section that was checked before
-pub record AcceptedOf (s : List ℕ) (layout : Layout) : Type 0 where
-  pub accepted : verdict s ≡ Accepted
-  pub layout-is : layout ≡ layoutOf s
-
--- what is asked where the row of function i is looked for: d is within it
-pub record RowAsked (s : List ℕ) (layout : Layout) (i : ℕ) (d : ℤ) : Type 0 where
-  pub section : AcceptedOf s layout
-  pub inside : i < layout .functions
-  pub within : covers d (functionIn s i) ≡ true
 
 -- ---- functions
 

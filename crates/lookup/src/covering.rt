@@ -1,4 +1,4 @@
-// Which functions cover, in a section that need not be sorted: every entry is compared, once.
+// Which functions cover, in a section that need not be sorted: entry after entry is compared, none twice.
 use crate::table::entry_in;
 use numbers::field::Order;
 use section::entry::start_of;
@@ -11,19 +11,14 @@ ghost use lib.Signed.{leZ, ltZ};
 ghost use Rattle.numbers.specs.Held.{Held, Near};
 ghost use Rattle.section.specs.Meaning.{functionIn, functionsOf};
 ghost use Rattle.lookup.specs.Covering.{covers, covering, coverOf};
-ghost use Rattle.lookup.specs.Search.{TableOf, pastStart, firstWhere};
+ghost use Rattle.lookup.specs.Inner.{TableOf};
+ghost use Rattle.lookup.specs.Search.{pastStart, firstWhere};
 
 // Whether functions cover: none, one, or two or more, and then the two lowest. By their indexes.
 pub enum Cover {
     Nobody,
     One(u64),
-    Two { first: u64, second: u64 },
-}
-
-// Which cover, and the number of entries compared.
-pub struct Search {
-    pub cover: Cover,
-    pub compared: u64,
+    Two(u64, u64),
 }
 
 // How far d is past a start. Before the start it is 2^64 less what is missing, farther than any size, so that one comparison
@@ -85,8 +80,5 @@ pub fn scan(section: &[u8], layout: Layout, order: Order, d: u64) -> Cover
     if second == layout.functions as u64 {
         return Cover::One(first);
     }
-    Cover::Two {
-        first: first,
-        second: second,
-    }
+    Cover::Two(first, second)
 }

@@ -1,4 +1,4 @@
-// The halving of a sorted section: only the entries compared are read.
+// The halving of a sorted section: only the start fields of the entries compared are read.
 use numbers::field::Order;
 use numbers::field::u32_at;
 use numbers::held::held_start;
@@ -9,7 +9,8 @@ ghost use lib.IntN.{ℤ};
 ghost use Rattle.numbers.specs.Held.{Held, Near};
 ghost use Rattle.section.specs.Meaning.{functionStart, functionsOf};
 ghost use Rattle.lookup.specs.Halving.{landing};
-ghost use Rattle.lookup.specs.Search.{TableOf, positionAt};
+ghost use Rattle.lookup.specs.Inner.{TableOf};
+ghost use Rattle.lookup.specs.Search.{positionAt};
 
 // Where the halving ends: one past the last entry that was found to start at most at d, and the number of entries compared.
 pub struct Landing {

@@ -25,7 +25,7 @@ ghost use Rattle.section.specs.Meaning.{blockOf, functionIn, functionsOf};
 ghost use Rattle.lookup.specs.Answers.{withRow, withCover, answerOf, lookupOf};
 ghost use Rattle.lookup.specs.Covering.{covering, coverOf};
 ghost use Rattle.lookup.specs.Rows.{inBlock, rowFor};
-ghost use Rattle.lookup.specs.Search.{AcceptedOf, RowAsked};
+ghost use Rattle.lookup.specs.Inner.{AcceptedOf, RowAsked};
 
 // What remains of a distance by a repeat size. Source 001 writes a mask here; document 01's remainder rule stands.
 fn left_over(past: u64, size: u8) -> u64
@@ -83,7 +83,7 @@ fn with_cover(section: &[u8], layout: Layout, cover: Cover, address: u64, pc: u6
     match cover {
         Cover::Nobody => Outcome::NoFunction,
         Cover::One(i) => with_row(i, row_for(section, layout, i, address, pc)),
-        Cover::Two { first, second } => Outcome::Dispute {
+        Cover::Two(first, second) => Outcome::Dispute {
             first: first,
             second: second,
         },

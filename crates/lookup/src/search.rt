@@ -1,6 +1,5 @@
 // The covering function of a section whose header is sound, and the number of entries compared.
 use crate::covering::Cover;
-use crate::covering::Search;
 use crate::covering::covers_at;
 use crate::covering::scan;
 use crate::halving::halve;
@@ -13,7 +12,14 @@ ghost use Prim.Native.Nat.{_≤_};
 ghost use lib.IntN.{ℤ};
 ghost use Rattle.numbers.specs.Held.{distance, Near};
 ghost use Rattle.section.specs.Meaning.{functionsOf};
-ghost use Rattle.lookup.specs.Search.{HeaderOf, TableOf, landedOn, searchOf};
+ghost use Rattle.lookup.specs.Inner.{HeaderOf, TableOf};
+ghost use Rattle.lookup.specs.Search.{landedOn, searchOf};
+
+// Which functions cover, and the number of entries compared.
+pub struct Search {
+    pub cover: Cover,
+    pub compared: u64,
+}
 
 // Whether the function landed on, the one before `low`, covers. In a sorted section no other one can.
 fn landed_on(section: &[u8], layout: Layout, order: Order, low: u64, d: u64) -> Cover

@@ -7,7 +7,7 @@ use Rattle.numbers.specs.Held.{distance}
 use Rattle.section.proofs.ListedLaws.{functions-get}
 use Rattle.lookup.specs.Answers.{withCover}
 use Rattle.lookup.specs.Halving.{noFunction}
-use Rattle.lookup.specs.Search.{RowAsked}
+use Rattle.lookup.specs.Inner.{RowAsked}
 use Rattle.lookup.proofs.LookLaws.{row-asked}
 use Rattle.lookup.proofs.look.with_cover.Statement.{statement}
 use Rattle.lookup.proofs.look.with_cover.Tie as tie
