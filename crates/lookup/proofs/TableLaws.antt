@@ -37,11 +37,13 @@ pub entry-place : {s : List ℕ} {layout : Layout} → HeaderOf s layout → (i 
 entry-place header i lt = omega (arith, entry-room header i lt, header-obeys header .rule2)
 
 -- the start field of entry i, with what it counts from, is the start of function i
-pub field-held : {s : List ℕ} {layout : Layout} {order : Order} → TableOf s layout order → (i : ℕ) {h : ℕ}
-    → Held (startAt (fieldOf s (layout .table + 20 * i) 4 order) (positionAt (layout .relative) (layout .table + 20 * i))) h
+pub field-held : {s : List ℕ} {layout : Layout} {order : Order} → TableOf s layout order → (i : ℕ) {field position h : ℕ}
+    → field ≡ fieldOf s (layout .table + 20 * i) 4 order
+    → position ≡ positionAt (layout .relative) (layout .table + 20 * i)
+    → Held (startAt field position) h
     → Held (functionStart s i) h
 unfolding startOf positionOf positionAt entryIn entryOf
-field-held table i held = rw (table .order-is, table .header .layout-is) at held
+field-held table i field-is position-is held = rw (field-is, position-is, table .order-is, table .header .layout-is) at held
 
 -- the start of what was read as entry i is the start of function i
 pub start-held : {s : List ℕ} {layout : Layout} → HeaderOf s layout → (i : ℕ) {entry : Entry} {h : ℕ} → entry ≡ entryIn s i

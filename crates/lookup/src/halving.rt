@@ -1,10 +1,10 @@
 // The halving of a sorted section: only the start fields of the entries compared are read.
 use numbers::field::Order;
 use numbers::field::u32_at;
-use numbers::held::held_start;
+use numbers::held::rank_of;
 use section::header::Layout;
 ghost use mathlib.Core.Path.{_≡_};
-ghost use Prim.Native.Nat.{_≤_, _<_};
+ghost use Prim.Native.Nat.{_+_, _-_, _≤_, _<_};
 ghost use lib.IntN.{ℤ};
 ghost use Rattle.numbers.specs.Held.{Held, Near};
 ghost use Rattle.section.specs.Meaning.{functionStart, functionsOf};
@@ -29,16 +29,23 @@ fn position_at(relative: bool, at: usize) -> usize
     0
 }
 
-// The start of function i, held: of its entry only the start field is read.
+// How far the start of function i is above the least field, -2^31. Of its entry only the start field is read.
 fn start_at(section: &[u8], layout: Layout, order: Order, i: u64) -> u64
     requires { ⌜ TableOf (now section) layout order × (i < layout .functions) ⌝ }
-    ensures { λ r. ⌜ Held (functionStart (now (section .entry)) i) r ⌝ }
+    ensures { λ r. ⌜ Held (functionStart (now (section .entry)) i) (r + 2147483648) ⌝ }
 {
     let at = (layout.table + 20 * i) as usize;
-    held_start(
-        u32_at(section, at, order),
-        position_at(layout.relative, at) as u32,
-    )
+    rank_of(u32_at(section, at, order)) + position_at(layout.relative, at) as u64
+}
+
+// The first number, counted as starts are here, that is past d.
+fn bound_of(d: u64) -> u64
+    ensures { λ r. ⌜ r ≡ d + 1 - 2147483648 ⌝ }
+{
+    if d < 0x8000_0000 {
+        return 0;
+    }
+    d - 0x8000_0000 + 1
 }
 
 // The halving rule over all entries.
@@ -47,13 +54,14 @@ pub fn halve(section: &[u8], layout: Layout, order: Order, d: u64) -> Landing
     ensures { λ r. ⌜ ((z : ℤ) → Near z d → r ≡ landing z (functionsOf (now (section .entry)))) ⌝ }
     ensures range { λ r. ⌜ r .low ≤ layout .functions ⌝ }
 {
+    let bound = bound_of(d);
     let mut low = 0;
     let mut high = layout.functions as u64;
     let mut compared = 0;
     while low < high {
         let middle = (low + high) / 2;
         compared = compared + 1;
-        if start_at(section, layout, order, middle) <= d {
+        if start_at(section, layout, order, middle) < bound {
             low = middle + 1;
         } else {
             high = middle;

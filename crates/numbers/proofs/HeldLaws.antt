@@ -1,14 +1,15 @@
 -- A start and a distance compare as whole numbers exactly as the unsigned numbers that hold them do. The layers above cite
 -- one law for each outcome of a test (`from-start` to `offset-in`), and prove no range of their own.
 -- Assumes nothing.
-use mathlib.Core.Path.{_≡_, sym, _∙_, ap}
-use mathlib.Core.Bool.{true, false}
+use mathlib.Core.Path.{_≡_, refl, sym, _∙_, ap}
+use mathlib.Core.Bool.{Bool, true, false}
 use Prim.Native.Nat.{ℕ, suc, _+_, _-_, _*_, _^_, _≤_, _<_, min}
 use native.Mathlib.Omega.{arith}
 use lib.IntN.{ℤ, pos, negsuc, _+ℤ_, _-ℤ_}
 use lib.Signed.{ltZ, leZ}
-use borrow.Author.Tests.{le-leb, lt-leb, le-ltb, lt-ltb}
-use Rattle.numbers.specs.Held.{startAt, distance, natural, raised, near, Held, Near}
+use lib.Dec.{ltb}
+use borrow.Author.Tests.{ltb-true, ltb-false, le-leb, lt-leb, le-ltb, lt-ltb}
+use Rattle.numbers.specs.Held.{startAt, rank, distance, natural, raised, near, Held, Near}
 use Rattle.numbers.proofs.DiffLaws.{Apart, Diff, diff-pos, diff-add, diff-neg, diff-same, diff-less, diff-unique, diff-le, diff-lt}
 use Rattle.numbers.proofs.SignedLaws.{signed-low, signed-high}
 
@@ -44,6 +45,20 @@ distance-is address pc = diff-less pc address
 -- a number that holds a start, from a difference within the range
 pub held-by : {z : ℤ} {a b h : ℕ} → Diff z a b → h + b ≡ a + 2 ^ 32 → 0 < h → h ≤ 3 * 2 ^ 32 → Held z h
 held-by diff e p q = record { is = rw (raised-is diff) (omega arith); above = p; room = q }
+
+-- a field and what it counts from hold the start: in both halves that a field may lie in
+rank-by-half : (field position : ℕ) (low : Bool) → ltb field 2147483648 ≡ low → field < 2 ^ 32 → position < 2 ^ 32
+    → Held (startAt field position) (rank field + 2147483648 + position)
+unfolding rank
+rank-by-half field position true e p q =
+    let half = ltb-true field 2147483648 e in
+    held-by (start-low field position half) (omega arith) (omega arith) (omega arith)
+rank-by-half field position false e p q =
+    let half = ltb-false field 2147483648 e in
+    held-by (start-high field position half) (omega arith) (omega arith) (omega arith)
+
+pub held-rank : (field position : ℕ) → field < 2 ^ 32 → position < 2 ^ 32 → Held (startAt field position) (rank field + 2147483648 + position)
+held-rank field position = rank-by-half field position (ltb field 2147483648) refl
 
 -- a number that holds the distance of a PC
 pub near-by : (address pc : ℕ) {n : ℕ} → n ≡ min (pc + 2 ^ 32 - address) (2 ^ 34) → n ≡ near (distance address pc)

@@ -1,7 +1,7 @@
 -- Starts, and the distance d that they are compared with. Both are exact whole numbers here. The code holds each as an
 -- unsigned number 2 ^ 32 above its value, so that none is below 0 and every comparison is one of plain u64.
 use mathlib.Core.Path.{_≡_}
-use Prim.Native.Nat.{ℕ, _≤_, _<_, _*_, _^_, min}
+use Prim.Native.Nat.{ℕ, _+_, _≤_, _<_, _*_, _^_, _%_, min}
 use lib.IntN.{ℤ, pos, negsuc, _+ℤ_, _-ℤ_}
 use Rattle.numbers.specs.Signed.{signedOf}
 
@@ -13,6 +13,10 @@ startAt field position = signedOf 4 field +ℤ pos position
 -- "Let d be PC minus section address, a whole number that may be negative."
 unfoldable pub distance : ℕ → ℕ → ℤ
 distance address pc = pos pc -ℤ pos address
+
+-- how far the signed number that a field of 4 bytes stands for is above the least one, -2 ^ 31
+unfoldable pub rank : ℕ → ℕ
+rank field = (field + 2 ^ 31) % 2 ^ 32
 
 -- a whole number as a natural one, 0 where it is negative
 unfoldable pub natural : ℤ → ℕ

@@ -1,7 +1,8 @@
 // Starts of functions and the distance they are compared with, each held 2^32 above its exact value, so that it is never
 // below 0 and every comparison is of plain u64.
 ghost use mathlib.Core.Path.{_≡_};
-ghost use Rattle.numbers.specs.Held.{startAt, distance, raised, near, Held};
+ghost use Prim.Native.Nat.{_<_, _^_};
+ghost use Rattle.numbers.specs.Held.{rank, startAt, distance, raised, near, Held};
 
 // How far above its value a start is held: 2^32.
 const LIFT: u64 = 0x1_0000_0000;
@@ -10,13 +11,20 @@ const FAR: u64 = 0x4_0000_0000;
 // The least field of 4 bytes that stands for a negative number: 2^31.
 const NEGATIVE: u64 = 0x8000_0000;
 
+// How far a field is above the least one, -2^31: the remainder changes its sign bit.
+pub fn rank_of(field: u32) -> u64
+    ensures { λ r. ⌜ r ≡ rank field ⌝ }
+    ensures range { λ r. ⌜ r < 2 ^ 32 ⌝ }
+{
+    (field as u64 + NEGATIVE) % LIFT
+}
+
 // A start from its field and what it counts from: the field's own position under flag 0x4, else 0.
 pub fn held_start(field: u32, position: u32) -> u64
     ensures { λ r. ⌜ r ≡ raised (startAt field position) ⌝ }
     ensures range { λ r. ⌜ Held (startAt field position) r ⌝ }
 {
-    // The remainder changes the field's sign bit, so that it counts from the least negative number up.
-    (field as u64 + NEGATIVE) % LIFT + NEGATIVE + position as u64
+    rank_of(field) + NEGATIVE + position as u64
 }
 
 // PC minus section address, exact and never wrapped; beyond every start and end it is kept at 0 or at 2^34.

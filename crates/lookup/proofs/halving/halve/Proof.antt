@@ -10,13 +10,13 @@ use Rattle.lookup.proofs.halving.halve.Statement.{statement}
 use Rattle.lookup.proofs.halving.halve.Tie as tie
 
 abbrev Inv-loop : tie.InvT-loop
-Inv-loop section layout order d low₀ high₀ compared₀ low high compared = Halved section (layout .functions) d low high compared
+Inv-loop section layout order d bound low₀ high₀ compared₀ low high compared = Halved section (layout .functions) d low high compared
 
 abbrev μ-loop : tie.MeasureT-loop
-μ-loop section layout order d low₀ high₀ compared₀ low high compared = high - low
+μ-loop section layout order d bound low₀ high₀ compared₀ low high compared = high - low
 
 loop-holds : tie.Need-loop-holds Inv-loop μ-loop
-loop-holds c = halving-begins _ (c .before .before .pre .header)
+loop-holds c = halving-begins _ (c .before .before .before .pre .header)
 
 add-middle : tie.Need-add-middle Inv-loop μ-loop
 add-middle c =
@@ -27,7 +27,7 @@ add-compared : tie.Need-add-compared Inv-loop μ-loop
 add-compared c = let loop = c .before .loop in omega (arith, loop .inv .spent, loop .inv .few, c .loop-test .taken)
 
 start-at-requires : tie.Need-start-at-requires Inv-loop μ-loop
-start-at-requires c κs = (c .before .before .before .before .pre, middle-within (c .before .loop .inv) (c .loop-test .taken))
+start-at-requires c κs = (c .before .before .before .before .before .pre, middle-within (c .before .loop .inv) (c .loop-test .taken))
 
 add-low : tie.Need-add-low Inv-loop μ-loop
 add-low c =
@@ -37,15 +37,18 @@ add-low c =
 loop-again : tie.Need-loop-again Inv-loop μ-loop
 loop-again c =
     let turn = c .before .before in
-    let loop = turn .before .loop in
-    rw (add-one ((loop .low + loop .high) / 2), add-one (loop .compared))
-    (goes-up (turn .before .loop .inv) (turn .loop-test .taken) λ z near. from-start (c .before .start-at .ensures) near (c .if1 .taken))
+    let loop = turn .before in
+    rw (add-one ((loop .loop .low + loop .loop .high) / 2), add-one (loop .loop .compared))
+    (goes-up (loop .loop .inv) (turn .loop-test .taken) λ z near.
+    from-start (c .before .start-at .ensures) near (omega (arith, c .if1 .taken, loop .before .before .bound-of .ensures)))
 
 loop-again-2 : tie.Need-loop-again-2 Inv-loop μ-loop
 loop-again-2 c =
     let turn = c .before .before in
-    rw (add-one (turn .before .loop .compared))
-    (goes-down (turn .before .loop .inv) (turn .loop-test .taken) λ z near. before-start (c .before .start-at .ensures) near (c .if1 .left))
+    let loop = turn .before in
+    rw (add-one (loop .loop .compared))
+    (goes-down (loop .loop .inv) (turn .loop-test .taken) λ z near.
+    before-start (c .before .start-at .ensures) near (omega (arith, c .if1 .left, loop .before .before .bound-of .ensures)))
 
 returns : tie.Need-returns Inv-loop μ-loop
 returns c =
@@ -58,6 +61,7 @@ halve-spec =
     (tie.spec
     Inv-loop
     μ-loop
+    (λ c κs. search needs)
     (λ c. search needs)
     loop-holds
     add-middle

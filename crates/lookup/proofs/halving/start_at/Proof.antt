@@ -2,6 +2,10 @@
 -- Assumes nothing.
 use borrow.Author.Needs.{needs}
 use native.Mathlib.Omega.{arith}
+use mathlib.Core.Path.{_≡_}
+use Prim.Native.Nat.{_+_, _<_, _^_}
+use Rattle.numbers.specs.Held.{rank}
+use Rattle.numbers.proofs.HeldLaws.{held-rank}
 use Rattle.lookup.proofs.TableLaws.{entry-room, entry-place, field-held}
 use Rattle.lookup.proofs.halving.start_at.Statement.{statement}
 use Rattle.lookup.proofs.halving.start_at.Tie as tie
@@ -15,16 +19,20 @@ add-at c = let pre = c .before .before .pre in omega (arith, entry-place (pre .0
 u32-at-requires : tie.Need-u32-at-requires
 u32-at-requires c κs = let pre = c .before .before .pre in omega (arith, entry-room (pre .0 .header) _ (pre .1))
 
-cast-held-start : tie.Need-cast-held-start
-cast-held-start c =
-    let pre = c .before .before .before .before .pre in
-    omega (arith, c .position-at .ensures .1, entry-place (pre .0 .header) _ (pre .1))
+add-result : tie.Need-add-result
+add-result c =
+    let pre = c .before .before .before .before .before .pre in
+    omega (arith, c .before .rank-of .ensures .1, c .position-at .ensures .1, entry-place (pre .0 .header) _ (pre .1))
 
 returns : tie.Need-returns
 returns c =
-    let position = c .before in
-    let table = position .before .before .before .before .pre .0 in
-    field-held table _ (rw (position .before .u32-at .ensures, position .position-at .ensures .0) at (c .held-start .ensures .1))
+    let field = c .before .before in
+    let start = field .before .before .before in
+    let small : c .position-at .result < 2 ^ 32 = omega (arith, c .position-at .ensures .1, entry-place (start .pre .0 .header) _ (start .pre .1)) in
+    let held = held-rank (field .u32-at .result) (c .position-at .result) (search needs) small in
+    let same : c .before .rank-of .result + c .position-at .result + 2147483648
+    ≡ rank (field .u32-at .result) + 2147483648 + c .position-at .result = omega (arith, c .before .rank-of .ensures .0) in
+    field-held (start .pre .0) _ (field .u32-at .ensures) (c .position-at .ensures .0) (rw same held)
 
 pub start-at-spec : {M : Type 1} → statement M
 start-at-spec =
@@ -34,6 +42,6 @@ start-at-spec =
     add-at
     u32-at-requires
     (λ c κs. search needs)
-    cast-held-start
     (λ c κs. search needs)
+    add-result
     returns)
