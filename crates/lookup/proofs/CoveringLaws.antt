@@ -19,7 +19,7 @@ use Rattle.accept.proofs.Decides.{Shows, both}
 use Rattle.accept.proofs.InOrder.{in-turn}
 use Rattle.lookup.specs.Covering.{covers, coveringFrom, covering, coverOf}
 use Rattle.lookup.specs.Halving.{noFunction}
-use Rattle.lookup.specs.declared.covering.Cover.the-variants.{Nobody, One, Two}
+use Rattle.lookup.specs.declared.search.Cover.the-variants.{Nobody, One, Two}
 
 -- ---- tests
 

@@ -21,9 +21,9 @@ use Rattle.lookup.specs.Halving.{halve}
 use Rattle.lookup.specs.Opened.{lookupOpened}
 use Rattle.lookup.specs.Rows.{inBlock, lastRow, rowFor}
 use Rattle.lookup.specs.declared.answer.Outcome.the-variants.{Found, Unsound, NoFunction, Dispute, NoRow}
-use Rattle.lookup.specs.declared.covering.Cover.{Cover}
-use Rattle.lookup.specs.declared.covering.Cover.the-variants.{Nobody, One}
-use Rattle.lookup.specs.declared.halving.Landing.{Landing}
+use Rattle.lookup.specs.declared.search.Cover.{Cover}
+use Rattle.lookup.specs.declared.search.Cover.the-variants.{Nobody, One}
+use Rattle.lookup.specs.declared.search.Landing.{Landing}
 use Rattle.lookup.specs.declared.rows.Scan.{Scan}
 
 -- ---- "Loaded at 0x400000"

@@ -13,7 +13,7 @@ use Rattle.section.proofs.ListedLaws.{functions-get}
 use Rattle.lookup.specs.Covering.{covers}
 use Rattle.lookup.specs.Halving.{noFunction}
 use Rattle.lookup.specs.Search.{landedOn}
-use Rattle.lookup.specs.declared.covering.Cover.the-variants.{Nobody, One}
+use Rattle.lookup.specs.declared.search.Cover.the-variants.{Nobody, One}
 
 pub landed-nowhere : (s : List ℕ) (z : ℤ) (low : ℕ) → low ≡ 0 → landedOn z (functionsOf s) low ≡ Nobody
 unfolding landedOn

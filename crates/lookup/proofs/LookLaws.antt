@@ -23,8 +23,8 @@ use Rattle.lookup.specs.Covering.{covers, covering, coverOf}
 use Rattle.lookup.specs.Halving.{noFunction}
 use Rattle.lookup.specs.Rows.{inBlock, offsetWithin}
 use Rattle.lookup.specs.Inner.{HeaderOf, AcceptedOf, RowAsked}
-use Rattle.lookup.specs.declared.covering.Cover.{Cover}
-use Rattle.lookup.specs.declared.covering.Cover.the-variants.{Nobody, One, Two}
+use Rattle.lookup.specs.declared.search.Cover.{Cover}
+use Rattle.lookup.specs.declared.search.Cover.the-variants.{Nobody, One, Two}
 use Rattle.lookup.proofs.CoveringLaws.{by-value, OnlyAt, none-cover, one-covers, two-cover, Coverage, no-one, just-one, two-or-more, cover-cases}
 
 -- an accepted section has a sound header

@@ -11,7 +11,7 @@ use Rattle.section.specs.Header.{layoutOf}
 use Rattle.section.specs.Meaning.{Function, listed, functionIn, functionsOf}
 use Rattle.lookup.specs.Covering.{covers, coveringFrom, covering, coverOf}
 use Rattle.lookup.specs.Search.{firstWhere}
-use Rattle.lookup.specs.declared.covering.Cover.the-variants.{Nobody, One, Two}
+use Rattle.lookup.specs.declared.search.Cover.the-variants.{Nobody, One, Two}
 
 -- ---- the first index of which a test is true
 

@@ -17,8 +17,8 @@ use Rattle.lookup.specs.Rows.{rowFor}
 use Rattle.lookup.specs.declared.answer.Answer.{Answer}
 use Rattle.lookup.specs.declared.answer.Outcome.{Outcome}
 use Rattle.lookup.specs.declared.answer.Outcome.the-variants.{Found, Unsound, NoFunction, Dispute, NoRow}
-use Rattle.lookup.specs.declared.covering.Cover.{Cover}
-use Rattle.lookup.specs.declared.covering.Cover.the-variants.{Nobody, One, Two}
+use Rattle.lookup.specs.declared.search.Cover.{Cover}
+use Rattle.lookup.specs.declared.search.Cover.the-variants.{Nobody, One, Two}
 use Rattle.lookup.specs.declared.rows.Scan.{Scan}
 use Rattle.lookup.specs.declared.rows.Scan.the-variants.{Missed, Hit}
 

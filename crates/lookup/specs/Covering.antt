@@ -5,8 +5,8 @@ use mathlib.Core.List.{List, [], _∷_}
 use lib.IntN.{ℤ, pos, _+ℤ_}
 use lib.Signed.{leZ, ltZ}
 use Rattle.section.specs.Meaning.{Function}
-use Rattle.lookup.specs.declared.covering.Cover.{Cover}
-use Rattle.lookup.specs.declared.covering.Cover.the-variants.{Nobody, One, Two}
+use Rattle.lookup.specs.declared.search.Cover.{Cover}
+use Rattle.lookup.specs.declared.search.Cover.the-variants.{Nobody, One, Two}
 
 -- "A function covers PC when start <= d < start + size; size 0 covers nothing."
 unfoldable pub covers : ℤ → Function → Bool

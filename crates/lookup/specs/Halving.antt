@@ -7,7 +7,7 @@ use lib.IntN.{ℤ, pos}
 use lib.ListN.{length, getD}
 use lib.Signed.{leZ}
 use Rattle.section.specs.Meaning.{Function, plain}
-use Rattle.lookup.specs.declared.halving.Landing.{Landing}
+use Rattle.lookup.specs.declared.search.Landing.{Landing}
 
 -- "while low < high, compare entry (low + high) / 2 rounded down; start at most d moves low to one past it, otherwise high
 -- to it; each comparison counts one." The first number bounds the turns: with as many as there are entries, more change nothing

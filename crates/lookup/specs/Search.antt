@@ -12,8 +12,8 @@ use Rattle.section.specs.Meaning.{Function}
 use Rattle.section.specs.Row.{rowPlace, rowStart}
 use Rattle.lookup.specs.Covering.{covers, covering, coverOf}
 use Rattle.lookup.specs.Halving.{noFunction, landing, compared}
-use Rattle.lookup.specs.declared.covering.Cover.{Cover}
-use Rattle.lookup.specs.declared.covering.Cover.the-variants.{Nobody, One}
+use Rattle.lookup.specs.declared.search.Cover.{Cover}
+use Rattle.lookup.specs.declared.search.Cover.the-variants.{Nobody, One}
 use Rattle.lookup.specs.declared.search.Search.{Search}
 use Rattle.lookup.specs.declared.rows.Stop.{Stop}
 

@@ -1,9 +1,9 @@
 // The lookup: the one function that covers a PC, and its row.
 use crate::answer::Answer;
 use crate::answer::Outcome;
-use crate::covering::Cover;
 use crate::rows::Scan;
 use crate::rows::scan_rows;
+use crate::search::Cover;
 use crate::search::find;
 use crate::table::entry_in;
 use accept::section_check::check;

@@ -1,4 +1,4 @@
--- `halving::halve` follows the halving rule turn by turn: what is left of the halving gives the whole landing.
+-- `search::halve` follows the halving rule turn by turn: what is left of the halving gives the whole landing.
 -- Assumes nothing.
 use borrow.Author.Needs.{needs}
 use native.Mathlib.Numerals.{add-one}
@@ -6,8 +6,8 @@ use native.Mathlib.Omega.{arith}
 use Prim.Native.Nat.{_+_, _-_, _/_}
 use Rattle.numbers.proofs.HeldLaws.{from-start, before-start}
 use Rattle.lookup.proofs.HalvingTurns.{Halved, halving-begins, middle-within, goes-up, goes-down, halving-ends}
-use Rattle.lookup.proofs.halving.halve.Statement.{statement}
-use Rattle.lookup.proofs.halving.halve.Tie as tie
+use Rattle.lookup.proofs.search.halve.Statement.{statement}
+use Rattle.lookup.proofs.search.halve.Tie as tie
 
 abbrev Inv-loop : tie.InvT-loop
 Inv-loop section layout order d bound low₀ high₀ compared₀ low high compared = Halved section (layout .functions) d low high compared

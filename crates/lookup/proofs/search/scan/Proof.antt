@@ -1,4 +1,4 @@
--- `covering::scan` looks for the first function that covers, and for the next after it.
+-- `search::scan` looks for the first function that covers, and for the next after it.
 -- Assumes nothing.
 use borrow.Author.Needs.{needs}
 use native.Mathlib.Numerals.{add-one}
@@ -13,8 +13,8 @@ use Rattle.section.specs.Meaning.{functionIn}
 use Rattle.lookup.specs.Covering.{covers}
 use Rattle.lookup.specs.Search.{firstWhere}
 use Rattle.lookup.proofs.ScanLaws.{scan-none, scan-one, scan-two}
-use Rattle.lookup.proofs.covering.scan.Statement.{statement}
-use Rattle.lookup.proofs.covering.scan.Tie as tie
+use Rattle.lookup.proofs.search.scan.Statement.{statement}
+use Rattle.lookup.proofs.search.scan.Tie as tie
 
 -- what was found first, and next
 first : (c : tie.After-next-covering) (z : ℤ)

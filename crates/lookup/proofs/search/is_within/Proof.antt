@@ -1,10 +1,10 @@
--- `covering::is_within` compares once: before the start, d is farther past it than any size.
+-- `search::is_within` compares once: before the start, d is farther past it than any size.
 -- Assumes nothing.
 use borrow.Author.Needs.{needs}
 use mathlib.Core.Path.{sym}
 use Rattle.lookup.proofs.HeldTests.{inside, outside}
-use Rattle.lookup.proofs.covering.is_within.Statement.{statement}
-use Rattle.lookup.proofs.covering.is_within.Tie as tie
+use Rattle.lookup.proofs.search.is_within.Statement.{statement}
+use Rattle.lookup.proofs.search.is_within.Tie as tie
 
 returns : tie.Need-returns
 returns c f z held near =

@@ -1,9 +1,9 @@
--- `halving::position_at` is the place itself under the flag.
+-- `search::position_at` is the place itself under the flag.
 -- Assumes nothing.
 use native.Mathlib.Omega.{arith}
 use Rattle.lookup.specs.Search.{positionAt}
-use Rattle.lookup.proofs.halving.position_at.Statement.{statement}
-use Rattle.lookup.proofs.halving.position_at.Tie as tie
+use Rattle.lookup.proofs.search.position_at.Statement.{statement}
+use Rattle.lookup.proofs.search.position_at.Tie as tie
 
 returns : tie.Need-returns
 unfolding positionAt

@@ -1,11 +1,11 @@
--- `covering::covers_at` compares with the start and the size of entry i.
+-- `search::covers_at` compares with the start and the size of entry i.
 -- Assumes nothing.
 use borrow.Author.Needs.{needs}
 use Rattle.section.specs.Meaning.{functionIn}
 use Rattle.lookup.specs.Covering.{covers}
 use Rattle.lookup.proofs.TableLaws.{start-held}
-use Rattle.lookup.proofs.covering.covers_at.Statement.{statement}
-use Rattle.lookup.proofs.covering.covers_at.Tie as tie
+use Rattle.lookup.proofs.search.covers_at.Statement.{statement}
+use Rattle.lookup.proofs.search.covers_at.Tie as tie
 
 returns : tie.Need-returns
 unfolding covers functionIn

@@ -1,12 +1,12 @@
--- `covering::past_start` is the difference, or 2 ^ 64 less the difference the other way round.
+-- `search::past_start` is the difference, or 2 ^ 64 less the difference the other way round.
 -- Assumes nothing.
 use borrow.Author.Needs.{needs}
 use native.Mathlib.Omega.{arith}
 use mathlib.Core.Path.{sym}
 use borrow.Author.Tests.{le-leb, lt-leb}
 use Rattle.lookup.proofs.HeldTests.{past-from, past-before}
-use Rattle.lookup.proofs.covering.past_start.Statement.{statement}
-use Rattle.lookup.proofs.covering.past_start.Tie as tie
+use Rattle.lookup.proofs.search.past_start.Statement.{statement}
+use Rattle.lookup.proofs.search.past_start.Tie as tie
 
 returns : tie.Need-returns
 returns c = sym (past-from _ _ (le-leb (c .before .args .start) (c .before .args .d) (c .if1 .taken)))

@@ -1,4 +1,4 @@
--- `covering::next_covering` passes by functions that do not cover: the first that does is the same from each of them on.
+-- `search::next_covering` passes by functions that do not cover: the first that does is the same from each of them on.
 -- Assumes nothing.
 use borrow.Author.Needs.{needs}
 use native.Mathlib.Numerals.{add-one}
@@ -11,8 +11,8 @@ use Rattle.section.specs.Meaning.{functionIn}
 use Rattle.lookup.specs.Covering.{covers}
 use Rattle.lookup.specs.Search.{firstWhere}
 use Rattle.lookup.proofs.ScanLaws.{first-here, first-on, first-end}
-use Rattle.lookup.proofs.covering.next_covering.Statement.{statement}
-use Rattle.lookup.proofs.covering.next_covering.Tie as tie
+use Rattle.lookup.proofs.search.next_covering.Statement.{statement}
+use Rattle.lookup.proofs.search.next_covering.Tie as tie
 
 abbrev Inv-loop : tie.InvT-loop
 Inv-loop section layout order d from i₀ i =
