@@ -10,7 +10,7 @@ use section::header::Layout;
 use section::header::order_at;
 ghost use mathlib.Core.Bool.{_&&_};
 ghost use mathlib.Core.Path.{_≡_};
-ghost use Prim.Native.Nat.{_+_, _-_, _≤_, _<_};
+ghost use Prim.Native.Nat.{_+_, _-_, _^_, _≤_, _<_};
 ghost use lib.IntN.{ℤ, pos, _+ℤ_};
 ghost use lib.Signed.{leZ, ltZ};
 ghost use Rattle.lookup.specs.Covering.{covers, covering, coverOf};
@@ -19,6 +19,9 @@ ghost use Rattle.lookup.specs.Inner.{TableOf, HeaderOf};
 ghost use Rattle.lookup.specs.Search.{pastStart, firstWhere, positionAt, landedOn, searchOf};
 ghost use Rattle.numbers.specs.Held.{Held, Near, distance};
 ghost use Rattle.section.specs.Meaning.{functionIn, functionsOf, functionStart};
+
+// How the least field, -2^31, is held: 2^31.
+const LEAST: u64 = 0x8000_0000;
 
 // Whether functions cover: none, one, or two or more, and then the two lowest. By their indexes.
 pub enum Cover {
@@ -117,9 +120,9 @@ fn position_at(relative: bool, at: usize) -> usize
 }
 
 // How far the start of function i is above the least field, -2^31. Of its entry only the start field is read.
-fn start_at(section: &[u8], layout: Layout, order: Order, i: u64) -> u64
+fn rank_at(section: &[u8], layout: Layout, order: Order, i: u64) -> u64
     requires { ⌜ TableOf (now section) layout order × (i < layout .functions) ⌝ }
-    ensures { λ r. ⌜ Held (functionStart (now (section .entry)) i) (r + 2147483648) ⌝ }
+    ensures { λ r. ⌜ Held (functionStart (now (section .entry)) i) (r + 2 ^ 31) ⌝ }
 {
     let at = (layout.table + 20 * i) as usize;
     rank_of(u32_at(section, at, order)) + position_at(layout.relative, at) as u64
@@ -127,12 +130,12 @@ fn start_at(section: &[u8], layout: Layout, order: Order, i: u64) -> u64
 
 // The first number, counted as starts are here, that is past d.
 fn bound_of(d: u64) -> u64
-    ensures { λ r. ⌜ r ≡ d + 1 - 2147483648 ⌝ }
+    ensures { λ r. ⌜ r ≡ d + 1 - 2 ^ 31 ⌝ }
 {
-    if d < 0x8000_0000 {
+    if d < LEAST {
         return 0;
     }
-    d - 0x8000_0000 + 1
+    d - LEAST + 1
 }
 
 // The halving rule over all entries.
@@ -148,7 +151,7 @@ fn halve(section: &[u8], layout: Layout, order: Order, d: u64) -> Landing
     while low < high {
         let middle = (low + high) / 2;
         compared = compared + 1;
-        if start_at(section, layout, order, middle) < bound {
+        if rank_at(section, layout, order, middle) < bound {
             low = middle + 1;
         } else {
             high = middle;

@@ -26,8 +26,8 @@ add-middle c =
 add-compared : tie.Need-add-compared Inv-loop μ-loop
 add-compared c = let loop = c .before .loop in omega (arith, loop .inv .spent, loop .inv .few, c .loop-test .taken)
 
-start-at-requires : tie.Need-start-at-requires Inv-loop μ-loop
-start-at-requires c κs = (c .before .before .before .before .before .pre, middle-within (c .before .loop .inv) (c .loop-test .taken))
+rank-at-requires : tie.Need-rank-at-requires Inv-loop μ-loop
+rank-at-requires c κs = (c .before .before .before .before .before .pre, middle-within (c .before .loop .inv) (c .loop-test .taken))
 
 add-low : tie.Need-add-low Inv-loop μ-loop
 add-low c =
@@ -40,7 +40,7 @@ loop-again c =
     let loop = turn .before in
     rw (add-one ((loop .loop .low + loop .loop .high) / 2), add-one (loop .loop .compared))
     (goes-up (loop .loop .inv) (turn .loop-test .taken) λ z near.
-    from-start (c .before .start-at .ensures) near (omega (arith, c .if1 .taken, loop .before .before .bound-of .ensures)))
+    from-start (c .before .rank-at .ensures) near (omega (arith, c .if1 .taken, loop .before .before .bound-of .ensures)))
 
 loop-again-2 : tie.Need-loop-again-2 Inv-loop μ-loop
 loop-again-2 c =
@@ -48,7 +48,7 @@ loop-again-2 c =
     let loop = turn .before in
     rw (add-one (loop .loop .compared))
     (goes-down (loop .loop .inv) (turn .loop-test .taken) λ z near.
-    before-start (c .before .start-at .ensures) near (omega (arith, c .if1 .left, loop .before .before .bound-of .ensures)))
+    before-start (c .before .rank-at .ensures) near (omega (arith, c .if1 .left, loop .before .before .bound-of .ensures)))
 
 returns : tie.Need-returns Inv-loop μ-loop
 returns c =
@@ -66,7 +66,7 @@ halve-spec =
     loop-holds
     add-middle
     add-compared
-    start-at-requires
+    rank-at-requires
     add-low
     (λ c. search needs)
     loop-again

@@ -1,4 +1,4 @@
--- `search::start_at` reads the start field of entry i, which lies in the section, and adds its place under flag 0x4.
+-- `search::rank_at` reads the start field of entry i, which lies in the section, and adds its place under flag 0x4.
 -- Assumes nothing.
 use borrow.Author.Needs.{needs}
 use native.Mathlib.Omega.{arith}
@@ -7,8 +7,8 @@ use Prim.Native.Nat.{_+_, _<_, _^_}
 use Rattle.numbers.specs.Held.{rank}
 use Rattle.numbers.proofs.HeldLaws.{held-rank}
 use Rattle.lookup.proofs.TableLaws.{entry-room, entry-place, field-held}
-use Rattle.lookup.proofs.search.start_at.Statement.{statement}
-use Rattle.lookup.proofs.search.start_at.Tie as tie
+use Rattle.lookup.proofs.search.rank_at.Statement.{statement}
+use Rattle.lookup.proofs.search.rank_at.Tie as tie
 
 mul-at : tie.Need-mul-at
 mul-at c = let pre = c .before .pre in omega (arith, entry-place (pre .0 .header) _ (pre .1))
@@ -34,8 +34,8 @@ returns c =
     ≡ rank (field .u32-at .result) + 2147483648 + c .position-at .result = omega (arith, c .before .rank-of .ensures .0) in
     field-held (start .pre .0) _ (field .u32-at .ensures) (c .position-at .ensures .0) (rw same held)
 
-pub start-at-spec : {M : Type 1} → statement M
-start-at-spec =
+pub rank-at-spec : {M : Type 1} → statement M
+rank-at-spec =
     tie.close
     (tie.spec
     mul-at
