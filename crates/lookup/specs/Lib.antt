@@ -1,6 +1,7 @@
 pub mod Answers
 pub mod Cases
 pub mod Covering
+pub mod Finding
 pub mod Halving
 pub mod Inner
 pub mod Opened

@@ -1,6 +1,7 @@
 -- Each answer as the flat struct that C sees. Fields without meaning in a case are 0.
 use Prim.Native.Nat.{ℕ}
 use mathlib.Core.Bool.{Bool, true, false}
+use mathlib.Core.List.{List}
 use lib.IntN.{pos}
 use lib.ListN.{getD}
 use Rattle.numbers.specs.declared.offset.Offset.{Offset}
@@ -13,8 +14,14 @@ use Rattle.accept.specs.Checks.{verdictNumber, verdictIndex}
 use Rattle.accept.specs.declared.verdict.Verdict.{Verdict}
 use Rattle.lookup.specs.Answers.{outcomeNumber, outcomeIndexes, outcomeRow}
 use Rattle.lookup.specs.declared.answer.Answer.{Answer}
+use Rattle.caller.specs.Caller.{stepNumber, stepIndexes, stepRegisters}
+use Rattle.caller.specs.declared.registers.Step.{Step}
+use Rattle.trace.specs.Trace.{Trace, endingNumber, endingIndexes}
+use Rattle.trace.specs.declared.answer.Traced.{Traced}
 use Rattle.suntimpani.specs.declared.flat.Checked.{Checked}
 use Rattle.suntimpani.specs.declared.flat.Looked.{Looked}
+use Rattle.suntimpani.specs.declared.flat.Stepped.{Stepped}
+use Rattle.suntimpani.specs.declared.flat.Walked.{Walked}
 
 -- number 0 is accepted
 unfoldable pub flatVerdict : Verdict → Checked
@@ -67,3 +74,29 @@ flatAnswer answer =
     let indexes = outcomeIndexes (answer .outcome) in
     let found = getD (outcomeRow (answer .outcome)) 0 (0, noRow) in
     flatRow (outcomeNumber (answer .outcome)) (getD indexes 0 0) (getD indexes 1 0) (answer .compared) (found .0) (found .1)
+
+-- ---- a step's answer: the registers that it hands back, its number and its index
+
+unfoldable pub flatStep : Step → Stepped
+flatStep step =
+    record { registers = stepRegisters step; number = stepNumber step; index = getD (stepIndexes step) 0 0 }
+
+-- ---- a trace's answer: its frames, its ending's number and index; and with it the words of the buffer at exit
+
+unfoldable pub flatTraced : Traced → Walked
+flatTraced traced =
+    record {
+      frames = traced .frames;
+      ending = endingNumber (traced .ending);
+      index = getD (endingIndexes (traced .ending)) 0 0;
+    }
+
+pub record Handed : Type 0 where
+  pub answer : Walked
+  pub words : List ℕ
+
+unfoldable pub walkedAs : Walked → List ℕ → Handed
+walkedAs answer words = record { answer = answer; words = words }
+
+unfoldable pub flatTrace : Trace → Handed
+flatTrace trace = walkedAs (flatTraced (trace .answer)) (trace .words)

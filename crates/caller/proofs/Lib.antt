@@ -1,0 +1,2 @@
+pub mod LookedUpLaws
+pub mod RegisterLaws

@@ -1,0 +1,37 @@
+-- A step on a section that was checked: by the layout that is at hand and by what a lookup answers, it is the step of `stepOf`,
+-- which knows the section through `look` alone.
+-- Assumes nothing.
+use mathlib.Core.Path.{_≡_, sym, _∙_, ap}
+use mathlib.Core.List.{List}
+use Prim.Native.Nat.{ℕ}
+use Rattle.section.specs.Meaning.{shapeOf}
+use Rattle.section.specs.Shape.{shape}
+use Rattle.section.specs.declared.header.Layout.{Layout}
+use Rattle.section.specs.declared.shape.Shape.{Shape}
+use Rattle.lookup.specs.Answers.{answerOf}
+use Rattle.lookup.specs.Finding.{findingOf, lookIn}
+use Rattle.lookup.specs.Inner.{AcceptedOf}
+use Rattle.lookup.specs.declared.answer.Answer.{Answer}
+use Rattle.caller.specs.Caller.{fromFinding, askedOf, lookAt, stepOf}
+use Rattle.caller.specs.declared.registers.Asked.{Asked}
+use Rattle.caller.specs.declared.registers.Asked.the-variants.{At, Nowhere}
+use Rattle.caller.specs.declared.registers.Registers.{Registers}
+use Rattle.caller.specs.declared.registers.Step.{Step}
+use Rattle.caller.specs.declared.registers.Step.the-variants.{Refused}
+use Rattle.caller.specs.declared.registers.Where.{Where}
+
+module _ (s stack : List ℕ) (lies : Where) (registers : Registers) where
+  -- where there is no PC to look up
+  pub nowhere-step : {asked : Asked} → asked ≡ askedOf registers → asked ≡ Nowhere
+      → Refused registers 21 ≡ stepOf (shapeOf s) (lookIn s (lies .section)) stack lies registers
+  unfolding lookAt fromFinding stepOf
+  nowhere-step is nowhere = rw (sym is ∙ nowhere)
+
+  pub looked-up-step : {layout : Layout} {asked : Asked} {pc : ℕ} {answer : Answer} {here : Shape} {step : Step}
+      → AcceptedOf s layout → asked ≡ askedOf registers → asked ≡ At pc → answer ≡ answerOf s (lies .section) pc → here ≡ shape (layout .abi)
+      → step ≡ fromFinding here stack lies registers (findingOf (answer .outcome))
+      → step ≡ stepOf (shapeOf s) (lookIn s (lies .section)) stack lies registers
+  unfolding lookAt stepOf lookIn shapeOf
+  looked-up-step accepted is at looked shaped e =
+      rw (sym is ∙ at)
+      (rw (looked, shaped, accepted .layout-is) at e)

@@ -1,0 +1,2 @@
+pub mod Caller
+pub mod Opened

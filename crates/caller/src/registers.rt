@@ -1,0 +1,90 @@
+// The registers that a step begins with and hands back, and what is read off them.
+use numbers::address::Address;
+use numbers::address::address_of;
+use section::row::Base;
+use section::row::Row;
+ghost use mathlib.Core.Path.{_≡_};
+ghost use lib.IntN.{ℤ};
+ghost use Rattle.numbers.specs.Address.{inMemory};
+ghost use Rattle.caller.specs.Caller.{askedOf, baseValue, cfaOf, callerSp, isLow};
+
+// Five numbers, all of them any value. The first-frame mark is set where `first` is not 0.
+#[repr(C)]
+pub struct Registers {
+    pub pc: u64,
+    pub sp: u64,
+    pub fp: u64,
+    pub lr: u64,
+    pub first: u64,
+}
+
+// Where the section and the stack window lie.
+#[repr(C)]
+pub struct Where {
+    pub section: u64,
+    pub stack: u64,
+}
+
+// The PC that is looked up, or that there is none to look up.
+pub enum Asked {
+    At(u64),
+    Nowhere,
+}
+
+// What a step answers. The largest field stands first, so that it is not moved about.
+pub enum Step {
+    // The caller's registers.
+    Caller(Registers),
+    // 1 to 15: the section breaks a rule, at the entry with this index. The registers are the old ones.
+    Unsound {
+        old: Registers,
+        number: u64,
+        index: u64,
+    },
+    // 21 to 28, and 41, with the old registers.
+    Refused {
+        old: Registers,
+        number: u64,
+    },
+}
+
+pub fn asked_of(registers: Registers) -> Asked
+    ensures { λ r. ⌜ r ≡ askedOf registers ⌝ }
+{
+    Asked::At(registers.pc)
+}
+
+fn base_value(registers: Registers, base: Base) -> u64
+    ensures { λ r. ⌜ r ≡ baseValue registers base ⌝ }
+{
+    match base {
+        Base::Fp => registers.fp,
+        Base::Sp => registers.sp,
+    }
+}
+
+// CFA, where that is an address at all.
+pub fn cfa_of(registers: Registers, row: Row) -> Address
+    ensures { λ r. ⌜ r ≡ inMemory (cfaOf registers row) ⌝ }
+{
+    let base = row.base;
+    let offset = row.cfa;
+    address_of(base_value(registers, base), offset)
+}
+
+// The caller's SP, by CFA.
+pub fn caller_sp(cfa: u64) -> u64
+    ensures { λ r. ⌜ r ≡ callerSp cfa ⌝ }
+{
+    cfa
+}
+
+// Whether the stack would not shrink: the caller's SP is below SP, or equal to it without the mark.
+pub fn is_low(registers: Registers, sp: u64) -> bool
+    ensures { λ r. ⌜ r ≡ isLow registers sp ⌝ }
+{
+    if registers.first == 0 {
+        return sp <= registers.sp;
+    }
+    sp < registers.sp
+}

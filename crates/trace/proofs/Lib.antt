@@ -1,0 +1,4 @@
+pub mod BufferLaws
+pub mod DoorLaws
+pub mod GoingLaws
+pub mod WalkLaws

@@ -1,0 +1,2 @@
+pub mod Opened
+pub mod Trace

@@ -1,0 +1,140 @@
+// The walk: from the registers handed in, with the mark set, to the caller, and from each caller to its own.
+use crate::answer::Ending;
+use crate::answer::Traced;
+use crate::answer::frame_of;
+use crate::answer::number_of;
+use crate::answer::write_frame;
+use accept::section_check::check;
+use accept::verdict::Fault;
+use accept::verdict::Verdict;
+use caller::registers::Registers;
+use caller::registers::Step;
+use caller::registers::Where;
+use numbers::address::window_fits;
+use section::header::Layout;
+use section::header::layout_at;
+ghost use mathlib.Core.Path.{_≡_};
+ghost use Prim.Native.Nat.{_*_, _≤_};
+ghost use lib.ListN.{length};
+ghost use Rattle.lookup.specs.Inner.{AcceptedOf};
+ghost use Rattle.trace.specs.Trace.{inForce, withMark, doorFault, tracedAs, checkedWalk, traced, traceOf};
+
+// The limit that 0 stands for.
+const USUAL: u64 = 64;
+// The highest limit.
+const MOST: u64 = 256;
+
+fn in_force(limit: u64) -> u64
+    ensures { λ r. ⌜ r ≡ inForce limit ⌝ }
+{
+    if limit == 0 {
+        return USUAL;
+    }
+    limit
+}
+
+fn with_mark(registers: Registers) -> Registers
+    ensures { λ r. ⌜ r ≡ withMark registers ⌝ }
+{
+    Registers {
+        pc: registers.pc,
+        sp: registers.sp,
+        fp: registers.fp,
+        lr: registers.lr,
+        first: 1,
+    }
+}
+
+// 41, 42, 43: what is tried before anything else.
+fn door_fault(stack: &[u8], lies: Where, limit: u64, words: u64) -> Fault
+    ensures { λ r. ⌜ r ≡ doorFault (now (stack .entry)) lies limit words ⌝ }
+{
+    if !window_fits(stack, lies.stack) {
+        return Fault::Breaks(41);
+    }
+    if MOST < limit {
+        return Fault::Breaks(42);
+    }
+    if words < 3 * in_force(limit) {
+        return Fault::Breaks(43);
+    }
+    Fault::Sound
+}
+
+// The walk on a section that was checked, and as many frames as the limit allows.
+fn walk(
+    section: &[u8],
+    layout: Layout,
+    stack: &[u8],
+    lies: Where,
+    registers: Registers,
+    limit: u64,
+    buffer: &mut [u64],
+) -> Traced
+    requires { ⌜ AcceptedOf (now section) layout × (limit ≤ 256) × (3 * limit ≤ length (now buffer)) ⌝ }
+    ensures { λ r. ⌜ tracedAs r (now (buffer .exit)) ≡ traced (checkedWalk (now (section .entry)) (now (stack .entry)) lies limit registers) (now (buffer .entry)) ⌝ }
+{
+    let mut current = registers;
+    let mut frames = 0;
+    let mut left = limit;
+    while 0 < left {
+        let step = current.step_checked(section, layout, stack, lies);
+        let Step::Caller(caller) = step else {
+            return Traced {
+                ending: Ending::Refused(number_of(step)),
+                frames: frames,
+            };
+        };
+        write_frame(buffer, 3 * frames as usize, frame_of(caller));
+        frames = frames + 1;
+        if caller.pc == 0 {
+            return Traced {
+                ending: Ending::Outermost,
+                frames: frames,
+            };
+        }
+        current = caller;
+        left = left - 1;
+    }
+    Traced {
+        ending: Ending::Full,
+        frames: frames,
+    }
+}
+
+// The trace on any bytes, stack, registers, limit and buffer.
+pub fn trace(
+    section: &[u8],
+    stack: &[u8],
+    lies: Where,
+    registers: Registers,
+    limit: u64,
+    buffer: &mut [u64],
+) -> Traced
+    ensures { λ r. ⌜ tracedAs r (now (buffer .exit)) ≡ traceOf (now (section .entry)) (now (stack .entry)) lies registers limit (now (buffer .entry)) ⌝ }
+{
+    match door_fault(stack, lies, limit, buffer.len() as u64) {
+        Fault::Breaks(number) => Traced {
+            ending: Ending::Refused(number),
+            frames: 0,
+        },
+        Fault::Sound => match check(section) {
+            Verdict::Refused { number, index } => Traced {
+                ending: Ending::Unsound {
+                    number: number,
+                    index: index,
+                },
+                frames: 0,
+            },
+            Verdict::Accepted => walk(
+                section,
+                layout_at(section),
+                stack,
+                lies,
+                with_mark(registers),
+                in_force(limit),
+                buffer,
+            ),
+        },
+    }
+}
