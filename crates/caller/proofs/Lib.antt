@@ -1,2 +1,9 @@
+pub mod Exactly
+mod Examples
+pub mod FindingLaws
 pub mod LookedUpLaws
+pub mod MachineLaws
+pub mod NumberLaws
 pub mod RegisterLaws
+pub mod StepLaws
+pub mod TestLaws

@@ -1,2 +1,3 @@
 pub mod Caller
+pub mod Cases
 pub mod Opened

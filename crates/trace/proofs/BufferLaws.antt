@@ -2,11 +2,12 @@
 -- Assumes nothing.
 use mathlib.Core.Path.{_≡_, refl, sym, _∙_, ap}
 use mathlib.Core.List.{List, [], _∷_, _++_, append-assoc}
-use Prim.Native.Nat.{ℕ, suc, _+_, _*_, _≤_, _<_}
+use Prim.Native.Nat.{ℕ, zero, suc, _+_, _*_, _-_, _≤_, _<_}
 use native.Mathlib.Numerals.{add-one}
 use native.Mathlib.Omega.{arith}
-use lib.ListN.{length, getD, take, drop, set, length-append, length-take, length-drop, take-append-drop}
-use lib.Seq.{take-at, drop-at, drop-drop, sets, sets-eq}
+use lib.ListN.{List·getD-append, length, getD, take, drop, set, length-append, length-take, length-drop, take-append-drop}
+use lib.Seq.{take-at, drop-at, drop-append-seam, getD-drop, drop-drop, sets-eq}
+use Rattle.trace.specs.Cases.{noFrame}
 use Rattle.trace.specs.Trace.{wordsOf, allWords, over, put}
 use Rattle.trace.specs.declared.answer.Frame.{Frame}
 
@@ -38,12 +39,30 @@ put-more old at words more fits =
     let left = drop (length words) after in
     let seam : length (before ++ words) ≡ at + length words = simp (length-append, length-take) (omega arith) in
     let parted : put old at words ≡ (before ++ words) ++ left = sym (append-assoc before words left) in
-    let kept : drop (length more) left ≡ drop (length (words ++ more)) after = drop-drop (length more) (length words) after ∙ ap (λ n. drop n after) (sym (length-append words more)) in
+    let kept : drop (length more) left ≡ drop (length (words ++ more)) after =
+    drop-drop (length more) (length words) after ∙ ap (λ n. drop n after) (sym (length-append words more)) in
     ap (λ b. put b (at + length words) more) parted
     ∙ ap (λ l. l ++ over more (drop (at + length words) ((before ++ words) ++ left))) (take-at (before ++ words) left (at + length words) seam)
     ∙ ap (λ l. (before ++ words) ++ over more l) (drop-at (before ++ words) left (at + length words) seam)
     ∙ ap (λ l. (before ++ words) ++ (more ++ l)) kept
     ∙ simp append-assoc
+
+-- the words written, and those after them
+pub over-first : (words old : List ℕ) (j : ℕ) → j < length words → getD (over words old) j 0 ≡ getD words j 0
+unfolding over
+over-first words old j lt = List·getD-append words (drop (length words) old) 0 j lt
+
+pub over-after : (words old : List ℕ) → drop (length words) (over words old) ≡ drop (length words) old
+unfolding over
+over-after words old = drop-append-seam words (drop (length words) old)
+
+pub over-kept : (words old : List ℕ) (j : ℕ) → length words ≤ j → getD (over words old) j 0 ≡ getD old j 0
+over-kept words old j le =
+    let past : j ≡ length words + (j - length words) = omega arith in
+    rw past
+    (sym (getD-drop (length words) (over words old) (j - length words) 0)
+    ∙ ap (λ l. getD l (j - length words) 0) (over-after words old)
+    ∙ getD-drop (length words) old (j - length words) 0)
 
 -- ---- one frame
 
@@ -64,3 +83,18 @@ pub all-length : (frames : List Frame) → length (allWords frames) ≡ 3 * leng
 unfolding allWords wordsOf
 all-length [] = refl
 all-length (frame ∷ frames) = omega (arith, all-length frames)
+
+-- the words of frame k, from word 3 k on
+pub all-at : (frames : List Frame) (k : ℕ) → k < length frames
+    → (getD (allWords frames) (3 * k) 0 ≡ getD frames k noFrame .cfa)
+    × (getD (allWords frames) (3 * k + 1) 0 ≡ getD frames k noFrame .ra)
+    × (getD (allWords frames) (3 * k + 2) 0 ≡ getD frames k noFrame .fp)
+unfolding allWords wordsOf
+all-at [] k lt = absurd (omega arith)
+all-at (frame ∷ frames) zero lt = (refl, refl, refl)
+all-at (frame ∷ frames) (suc k) lt =
+    let (cfa, ra, fp) = all-at frames k (omega arith) in
+    let past : (i : ℕ) → 3 * suc k + i ≡ suc (suc (suc (3 * k + i))) = λ i. omega arith in
+    let first : 3 * suc k ≡ suc (suc (suc (3 * k))) = omega arith in
+    let words = allWords (frame ∷ frames) in
+    (ap (λ j. getD words j 0) first ∙ cfa, ap (λ j. getD words j 0) (past 1) ∙ ra, ap (λ j. getD words j 0) (past 2) ∙ fp)

@@ -1,79 +1,118 @@
--- What is tried before anything else, test by test, and what of it a walk needs.
+-- What is tried before the walk: the door, by its three rules, and then the section.
 -- Assumes nothing.
-use borrow.Author.Tests.{ltb-true, ltb-false, lt-ltb, le-ltb}
+use mathlib.Core.Path.{_≡_, refl}
+use mathlib.Core.Bool.{Bool}
+use mathlib.Core.List.{List, [], _∷_}
+use mathlib.Core.Logic.{inl, inr, _↔_, Iff·trans, ⊎-elim}
+use Prim.Native.Nat.{ℕ, _+_, _*_, _^_, _≤_}
 use native.Mathlib.Omega.{arith}
-use mathlib.Core.Bool.{true, false}
-use mathlib.Core.List.{List}
-use mathlib.Core.Path.{_≡_, _∙_}
-use Prim.Native.Nat.{ℕ, _*_, _≤_, _<_}
-use lib.Dec.{eqb, ltb}
 use lib.ListN.{length}
 use Rattle.numbers.specs.Address.{windowFits}
-use Rattle.accept.specs.Checks.{firstBad, verdict}
+use Rattle.accept.specs.Checks.{verdict}
+use Rattle.accept.specs.declared.verdict.Fault.{Fault}
 use Rattle.accept.specs.declared.verdict.Fault.the-variants.{Sound, Breaks}
+use Rattle.accept.specs.declared.verdict.Verdict.{Verdict}
 use Rattle.accept.specs.declared.verdict.Verdict.the-variants as verdict
+use Rattle.accept.proofs.Decides.{not-below, at-most, unless}
+use Rattle.accept.proofs.FaultLaws.{Table, end, line, FirstBroken, table-sound, table-breaks}
 use Rattle.caller.specs.declared.registers.Registers.{Registers}
 use Rattle.caller.specs.declared.registers.Where.{Where}
-use Rattle.lookup.proofs.CoveringLaws.{by-value}
-use Rattle.trace.specs.Trace.{inForce, ended, withMark, checkedWalk, doorTests, doorFault, afterDoor, afterCheck, walkIn, allWords, over, tracedAs, traced, traceOf}
+use Rattle.trace.specs.Cases.{PastMemory, LimitAbove, TooFewWords, AtDoor, Opened}
+use Rattle.trace.specs.Trace.{inForce, ended, withMark, checkedWalk, doorTests, doorFault, afterDoor, afterCheck, walkIn}
 use Rattle.trace.specs.declared.answer.Ending.the-variants.{Refused, Unsound}
 
-pub in-force-small : (limit : ℕ) → limit ≤ 256 → inForce limit ≤ 256
-unfolding inForce
-in-force-small limit small =
-    by-value (eqb limit 0) (λ e. rw (e, inForce) (omega arith)) (λ e. rw (e, inForce) small)
+module _ (stack : List ℕ) (lies : Where) (limit : ℕ) (buffer : List ℕ) where
+  abbrev tests : List (Bool × ℕ)
+  tests = doorTests stack lies limit (length buffer)
 
-module _ (stack : List ℕ) (lies : Where) (limit words : ℕ) where
-  pub door-window : windowFits stack (lies .stack) ≡ false → Breaks 41 ≡ doorFault stack lies limit words
-  unfolding doorFault doorTests firstBad
-  door-window out = rw (out, firstBad)
+  abbrev rules : List (Type 0)
+  rules = (lies .stack + length stack ≤ 2 ^ 64) ∷ (limit ≤ 256) ∷ (3 * inForce limit ≤ length buffer) ∷ []
 
-  module _ (fits : windowFits stack (lies .stack) ≡ true) where
-    pub door-limit : 256 < limit → Breaks 42 ≡ doorFault stack lies limit words
-    unfolding doorFault doorTests firstBad
-    door-limit high = rw (fits, firstBad) (rw (lt-ltb 256 limit high))
+  door-table : Table tests rules
+  unfolding doorTests windowFits
+  door-table = line (unless (at-most _ _)) (line (not-below _ _) (line (not-below _ _) end))
 
-    module _ (allowed : limit ≤ 256) where
-      pub door-words : words < 3 * inForce limit → Breaks 43 ≡ doorFault stack lies limit words
-      unfolding doorFault doorTests firstBad
-      door-words few = rw (fits, firstBad) (rw (le-ltb 256 limit allowed, firstBad) (rw (lt-ltb words (3 * inForce limit) few)))
+  door-opens : (doorFault stack lies limit (length buffer) ≡ Sound) ↔ Opened stack lies limit buffer
+  unfolding doorFault
+  door-opens =
+      Iff·trans (table-sound door-table) (
+        λ h. record { in-memory = omega arith; allowed = omega arith; room = omega arith },
+        λ h. (omega arith, (omega arith, (omega arith, tt))),
+      )
 
-      pub door-open : 3 * inForce limit ≤ words → Sound ≡ doorFault stack lies limit words
-      unfolding doorFault doorTests firstBad
-      door-open enough = rw (fits, firstBad) (rw (le-ltb 256 limit allowed, firstBad) (rw (le-ltb words (3 * inForce limit) enough)))
+  broken-at : (number : ℕ) → FirstBroken tests rules number ↔ AtDoor stack lies limit buffer number
+  unfolding doorTests
+  broken-at number = (
+    ⊎-elim
+        (λ h. inl (h .0, omega arith))
+        (λ h.
+        ⊎-elim
+        (λ g. inr (inl (g .0, omega arith, omega arith)))
+        (λ g. ⊎-elim (λ f. inr (inr (f .0, omega arith, omega arith, omega arith))) (λ f. absurd (f .1)) (g .1))
+        (h .1)),
+    ⊎-elim
+        (λ h. inl (h .0, omega arith))
+        (⊎-elim (λ h. inr (omega arith, inl (h .0, omega arith))) (λ h. inr (omega arith, inr (omega arith, inl (h .0, omega arith))))),
+  )
 
-  -- what a walk may rely on where nothing was refused
-  pub door-allows : doorFault stack lies limit words ≡ Sound → (limit ≤ 256) × (3 * inForce limit ≤ words)
-  door-allows opened =
-      by-value (windowFits stack (lies .stack))
-      (λ fits.
-      by-value (ltb 256 limit)
-      (λ e. clash (door-limit fits (ltb-true 256 limit e) ∙ opened))
-      (λ e.
-      let allowed = ltb-false 256 limit e in
-      by-value (ltb words (3 * inForce limit))
-      (λ few. clash (door-words fits allowed (ltb-true words (3 * inForce limit) few) ∙ opened))
-      (λ enough. (allowed, ltb-false words (3 * inForce limit) enough))))
-      (λ out. clash (door-window out ∙ opened))
-    where
-      clash : {number : ℕ} {X : Type 0} → Breaks number ≡ Sound → X
-      clash e = absurd (let z : _≡_ {A = ℕ} 0 1 = cc in omega arith)
+  door-shuts : (number : ℕ) → (doorFault stack lies limit (length buffer) ≡ Breaks number) ↔ AtDoor stack lies limit buffer number
+  unfolding doorFault
+  door-shuts number = Iff·trans (table-breaks door-table number) (broken-at number)
 
--- ---- the whole trace, by what the door and the section say
+  -- one number at a time
+  pub door-41 : AtDoor stack lies limit buffer 41 ↔ PastMemory stack lies
+  door-41 = (⊎-elim (λ h. h .1) (⊎-elim (λ h. absurd (omega arith)) (λ h. absurd (omega arith))), λ h. inl (refl, h))
 
-module _ (s stack : List ℕ) (lies : Where) (registers : Registers) (limit : ℕ) (old : List ℕ) where
-  pub refused-at-door : {number : ℕ} → doorFault stack lies limit (length old) ≡ Breaks number
-      → tracedAs (record { ending = Refused number; frames = 0 }) old ≡ traceOf s stack lies registers limit old
-  unfolding traceOf walkIn afterDoor traced ended allWords over
-  refused-at-door shut = rw shut
+  pub door-42 : AtDoor stack lies limit buffer 42 ↔ ((¬ PastMemory stack lies) × LimitAbove limit)
+  door-42 = (
+    ⊎-elim (λ h. absurd (omega arith)) (⊎-elim (λ h. (h .1, h .2)) (λ h. absurd (omega arith))),
+    λ h. inr (inl (refl, h .0, h .1)),
+  )
 
-  module _ (opened : doorFault stack lies limit (length old) ≡ Sound) where
-    pub refused-by-section : {number index : ℕ} → verdict s ≡ verdict.Refused number index
-        → tracedAs (record { ending = Unsound number index; frames = 0 }) old ≡ traceOf s stack lies registers limit old
-    unfolding traceOf walkIn afterDoor afterCheck traced ended allWords over
-    refused-by-section bad = rw (opened, bad)
+  pub door-43 : AtDoor stack lies limit buffer 43 ↔ ((¬ PastMemory stack lies) × (¬ LimitAbove limit) × TooFewWords limit buffer)
+  door-43 = (
+    ⊎-elim (λ h. absurd (omega arith)) (⊎-elim (λ h. absurd (omega arith)) (λ h. (h .1, h .2, h .3))),
+    λ h. inr (inr (refl, h .0, h .1, h .2)),
+  )
 
-    pub walked : verdict s ≡ verdict.Accepted
-        → traced (checkedWalk s stack lies (inForce limit) (withMark registers)) old ≡ traceOf s stack lies registers limit old
-    unfolding traceOf walkIn afterDoor afterCheck
-    walked good = rw (opened, good)
+  pub door-number : (number : ℕ) → AtDoor stack lies limit buffer number → (41 ≤ number) × (number ≤ 43)
+  door-number number = ⊎-elim (λ h. omega arith) (⊎-elim (λ h. omega arith) (λ h. omega arith))
+
+  pub not-open : (number : ℕ) → AtDoor stack lies limit buffer number → ¬ Opened stack lies limit buffer
+  not-open number at opened =
+      ⊎-elim (λ h. opened .in-memory (h .1)) (⊎-elim (λ h. opened .allowed (h .2)) (λ h. opened .room (h .3))) at
+
+  -- ---- what comes of it
+
+  module _ (s : List ℕ) (registers : Registers) where
+    pub shut-walk : (number : ℕ) → AtDoor stack lies limit buffer number
+        → walkIn s stack lies registers limit (length buffer) ≡ ended (Refused number)
+    unfolding walkIn afterDoor
+    shut-walk number shut = rw (door-shuts number .1 shut)
+
+    pub unsound-walk : Opened stack lies limit buffer → (number index : ℕ) → verdict s ≡ verdict.Refused number index
+        → walkIn s stack lies registers limit (length buffer) ≡ ended (Unsound number index)
+    unfolding walkIn afterDoor afterCheck
+    unsound-walk opened number index e = rw (door-opens .1 opened, e)
+
+    pub open-walk : Opened stack lies limit buffer → verdict s ≡ verdict.Accepted
+        → walkIn s stack lies registers limit (length buffer) ≡ checkedWalk s stack lies (inForce limit) (withMark registers)
+    unfolding walkIn afterDoor afterCheck
+    open-walk opened e = rw (door-opens .1 opened, e)
+
+  -- the three ways
+  pub data Way (s : List ℕ) : Type 0 where
+    shut : (number : ℕ) → AtDoor stack lies limit buffer number → Way s
+    unsound : Opened stack lies limit buffer → (number index : ℕ) → verdict s ≡ verdict.Refused number index → Way s
+    sound : Opened stack lies limit buffer → verdict s ≡ verdict.Accepted → Way s
+
+  way-in : (s : List ℕ) → Opened stack lies limit buffer → (v : Verdict) → verdict s ≡ v → Way s
+  way-in s opened verdict.Accepted e = sound opened e
+  way-in s opened (verdict.Refused number index) e = unsound opened number index e
+
+  way-by : (s : List ℕ) (fault : Fault) → doorFault stack lies limit (length buffer) ≡ fault → Way s
+  way-by s Sound e = way-in s (door-opens .0 e) (verdict s) refl
+  way-by s (Breaks number) e = shut number (door-shuts number .0 e)
+
+  pub way : (s : List ℕ) → Way s
+  way s = way-by s (doorFault stack lies limit (length buffer)) refl

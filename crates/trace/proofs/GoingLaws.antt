@@ -12,7 +12,7 @@ use Rattle.caller.specs.declared.registers.Step.the-variants as stepped
 use Rattle.trace.specs.Trace.{frameOf, wordsOf, ended, walkOf, put, tracedAs, traced}
 use Rattle.trace.specs.declared.answer.Ending.the-variants.{Outermost, Full, Refused}
 use Rattle.trace.proofs.BufferLaws.{put-length}
-use Rattle.trace.proofs.WalkLaws.{tracedFrom, begins, ends, writes-next, walk-refused, walk-unsound, walk-outermost, walk-on, walk-full}
+use Rattle.trace.proofs.WalkLaws.{tracedFrom, begins, ends, writes-next, walk-no-caller, walk-outermost, walk-on, walk-full}
 
 -- `frames` frames are written to b, and `left` more are allowed from the registers `current` on
 pub record Going (step : Registers → Step) (limit : ℕ) (start : Registers) (old b : List ℕ) (current : Registers) (frames left : ℕ) : Type 0 where
@@ -30,18 +30,11 @@ module _ {step : Registers → Step} {limit : ℕ} {start : Registers} {old : Li
         sym (ends frames Full b) ∙ ap (λ w. tracedFrom frames w b) (sym (ap (λ n. walkOf step n current) none ∙ walk-full step current)) ∙ going .leads
 
     module _ (more : 0 < left) where
-      no-caller : (o : Step) → step current ≡ o → ((caller : Registers) → ¬ (o ≡ stepped.Caller caller))
-          → walkOf step left current ≡ ended (Refused (stepNumber o))
-      unfolding stepNumber
-      no-caller (stepped.Caller caller) e never = absurd (never caller refl)
-      no-caller (stepped.Unsound old′ number index) e never = walk-unsound step left current more old′ number index e
-      no-caller (stepped.Refused old′ number) e never = walk-refused step left current more old′ number e
-
       -- "A refused step ends it with its own number"
       pub going-refused : (o : Step) → step current ≡ o → ((caller : Registers) → ¬ (o ≡ stepped.Caller caller))
           → tracedAs (record { ending = Refused (stepNumber o); frames = frames }) b ≡ traced (walkOf step limit start) old
       going-refused o e never =
-          sym (ends frames (Refused (stepNumber o)) b) ∙ ap (λ w. tracedFrom frames w b) (sym (no-caller o e never)) ∙ going .leads
+          sym (ends frames (Refused (stepNumber o)) b) ∙ ap (λ w. tracedFrom frames w b) (sym (walk-no-caller step left current more o e never)) ∙ going .leads
 
       module _ (room : 3 * limit ≤ length old) where
         -- there is room for one more frame

@@ -1,4 +1,9 @@
 pub mod BufferLaws
+pub mod CaseLaws
 pub mod DoorLaws
+pub mod Exactly
+mod Examples
 pub mod GoingLaws
+pub mod OpeningLaws
+pub mod TraceLaws
 pub mod WalkLaws

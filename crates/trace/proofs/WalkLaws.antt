@@ -1,20 +1,18 @@
 -- The walk turn by turn, and what is written after each turn.
 -- Assumes nothing.
-use mathlib.Core.Path.{_≡_, refl, sym, _∙_, ap}
-use mathlib.Core.List.{List, [], _∷_}
-use mathlib.Core.Bool.{true, false}
-use Prim.Native.Nat.{ℕ, zero, suc, _+_, _*_, _-_, _≤_, _<_}
+use mathlib.Core.Path.{_≡_, refl, _∙_, ap}
+use mathlib.Core.List.{List}
+use Prim.Native.Nat.{ℕ, suc, _+_, _*_, _-_, _≤_, _<_}
 use native.Mathlib.Nat.{zero-add, add-zero}
 use native.Mathlib.Numerals.{add-one}
 use native.Mathlib.Omega.{arith}
-use lib.Dec.{eqb}
 use lib.ListN.{length}
 use borrow.Author.Tests.{eq-eqb, ne-eqb}
 use Rattle.caller.specs.Caller.{stepNumber}
 use Rattle.caller.specs.declared.registers.Registers.{Registers}
 use Rattle.caller.specs.declared.registers.Step.{Step}
 use Rattle.caller.specs.declared.registers.Step.the-variants as stepped
-use Rattle.trace.specs.Trace.{Walk, Trace, frameOf, wordsOf, ended, withFrame, unlessOutermost, onward, walkOf, allWords, over, put, tracedAs, traced}
+use Rattle.trace.specs.Trace.{Walk, Trace, frameOf, wordsOf, ended, withFrame, unlessOutermost, onward, walkOf, allWords, put, tracedAs, traced}
 use Rattle.trace.specs.declared.answer.Ending.{Ending}
 use Rattle.trace.specs.declared.answer.Ending.the-variants.{Outermost, Full, Refused}
 use Rattle.trace.specs.declared.answer.Frame.{Frame}
@@ -80,6 +78,14 @@ module _ (step : Registers → Step) (left : ℕ) (registers : Registers) (more 
       → walkOf step left registers ≡ ended (Refused number)
   unfolding onward
   walk-unsound old number index e = one-turn ∙ rw e
+
+  -- the same of any answer that is no caller
+  pub walk-no-caller : (answer : Step) → step registers ≡ answer → ((caller : Registers) → ¬ (answer ≡ stepped.Caller caller))
+      → walkOf step left registers ≡ ended (Refused (stepNumber answer))
+  unfolding stepNumber
+  walk-no-caller (stepped.Caller caller) e other = absurd (other caller refl)
+  walk-no-caller (stepped.Unsound old number index) e other = walk-unsound old number index e
+  walk-no-caller (stepped.Refused old number) e other = walk-refused old number e
 
   module _ (caller : Registers) (yields : step registers ≡ stepped.Caller caller) where
     abbrev rest : Walk

@@ -4,7 +4,7 @@ use borrow.Author.Needs.{needs}
 use mathlib.Core.Path.{_≡_, sym, _∙_, ap}
 use lib.ListN.{length}
 use Rattle.accept.proofs.AcceptedLaws.{accepted-laws}
-use Rattle.trace.proofs.DoorLaws.{in-force-small, door-allows, refused-at-door, refused-by-section, walked}
+use Rattle.trace.proofs.OpeningLaws.{in-force-small, door-allows, refused-at-door, refused-by-section, walked}
 use Rattle.trace.proofs.walk.trace.Statement.{statement}
 use Rattle.trace.proofs.walk.trace.Tie as tie
 

@@ -1,0 +1,296 @@
+-- Steps on written-out sections and rows, each by computation: those of K10 and K12, the AArch64 examples of document 01, and every
+-- refusal; and wrong steps, each with a case on which it answers otherwise.
+-- Assumes nothing.
+use mathlib.Core.Path.{_≡_, refl, sym, _∙_, ap}
+use mathlib.Core.Bool.{Bool, true, false, _&&_}
+use mathlib.Core.List.{List, [], _∷_, map}
+use Prim.Native.Nat.{ℕ, _+_, _-_, _^_, _%_}
+use native.Mathlib.Omega.{arith}
+use lib.Dec.{leb, ltb}
+use lib.IntN.{ℤ, pos, negsuc}
+use lib.ListN.{length, take, replicate, set}
+use Rattle.numbers.specs.Address.{inMemory, wholly}
+use Rattle.numbers.specs.Field.{fieldOf}
+use Rattle.numbers.specs.declared.address.Address.{Address}
+use Rattle.numbers.specs.declared.address.Address.the-variants as address
+use Rattle.numbers.specs.declared.address.Word.{Word}
+use Rattle.numbers.specs.declared.address.Word.the-variants as word
+use Rattle.numbers.specs.declared.field.Order.{Order}
+use Rattle.numbers.specs.declared.field.Order.the-variants.{Little, Big}
+use Rattle.section.specs.SectionS.{sectionS, overlappingS, unsortedS}
+use Rattle.section.specs.Shape.{aarch64Shape, amd64Shape}
+use Rattle.section.specs.declared.row.Base.the-variants.{Fp, Sp}
+use Rattle.section.specs.declared.row.Place.the-variants.{Register, AtOffset}
+use Rattle.section.specs.declared.row.Row.{Row}
+use Rattle.section.specs.declared.shape.Shape.{Shape}
+use Rattle.caller.specs.Caller.{cfaOf, callerSp, isSigned, isLow, spotOf, isLost, valueOf, bothOf, valuesOf, withValues, fromSpots, fromCfa, withCfa, fromRow, stepIn, stepNumber, stepRegisters}
+use Rattle.caller.specs.Opened.{callerOpened}
+use Rattle.caller.specs.declared.place.Spot.{Spot}
+use Rattle.caller.specs.declared.place.Spot.the-variants.{Kept, Saved, Beyond}
+use Rattle.caller.specs.declared.place.Values.{Values}
+use Rattle.caller.specs.declared.place.Values.the-variants.{Both, NoRa, NoFp}
+use Rattle.caller.specs.declared.registers.Registers.{Registers}
+use Rattle.caller.specs.declared.registers.Step.{Step}
+use Rattle.caller.specs.declared.registers.Step.the-variants.{Caller, Unsound, Refused}
+use Rattle.caller.specs.declared.registers.Where.{Where}
+
+-- ---- K10: "stack at 0x7000, 64 bytes, all zero but the word 0x401008 at 0x7000"
+
+stack : List ℕ
+stack = 0x08 ∷ 0x10 ∷ 0x40 ∷ replicate 61 0
+
+loaded : Where
+loaded = record { section = 0x400000; stack = 0x7000 }
+
+-- "PC 0x401044, SP 0x7000, FP 0x7030", and the mark
+start : Registers
+start = record { pc = 0x401044; sp = 0x7000; fp = 0x7030; lr = 0; first = 1 }
+
+second : Registers
+second = record { pc = 0x401008; sp = 0x7008; fp = 0x7030; lr = 0; first = 0 }
+
+last : Registers
+last = record { pc = 0; sp = 0x7040; fp = 0; lr = 0; first = 0 }
+
+K10-first : stepIn sectionS stack loaded start ≡ Caller second
+unfolding callerOpened sectionS stack loaded start second
+K10-first = refl
+
+K10-second : stepIn sectionS stack loaded second ≡ Caller last
+unfolding callerOpened sectionS stack loaded second last
+K10-second = refl
+
+-- K12: "63 stack bytes, one frame, 28"
+K12-first : stepIn sectionS (take 63 stack) loaded start ≡ Caller second
+unfolding callerOpened sectionS stack loaded start second
+K12-first = refl
+
+K12-second : stepIn sectionS (take 63 stack) loaded second ≡ Refused second 28
+unfolding callerOpened sectionS stack loaded second
+K12-second = refl
+
+-- ---- "AArch64, first frame, SP base, offset 0: CFA = SP, RA = LR. The same row later: 26. With offset 16 later: 27.", in either
+-- byte order; a row with count 1
+
+one : ℤ → Row
+one offset = record { start = 0; base = Sp; cfa = record { by = offset }; ra = Register; fp = Register; signed = false }
+
+leaf : ℕ → Registers
+leaf first = record { pc = 0x401044; sp = 0x7000; fp = 0x7030; lr = 0x401008; first = first }
+
+first-frame : (order : Order) → fromRow (aarch64Shape order) stack loaded (leaf 1) (one (pos 0))
+    ≡ Caller (record { pc = 0x401008; sp = 0x7000; fp = 0x7030; lr = 0x401008; first = 0 })
+unfolding callerOpened loaded leaf one
+first-frame order = refl
+
+same-later : (order : Order) → fromRow (aarch64Shape order) stack loaded (leaf 0) (one (pos 0)) ≡ Refused (leaf 0) 26
+unfolding callerOpened loaded leaf one
+same-later order = refl
+
+more-later : (order : Order) → fromRow (aarch64Shape order) stack loaded (leaf 0) (one (pos 16)) ≡ Refused (leaf 0) 27
+unfolding callerOpened loaded leaf one
+more-later order = refl
+
+-- "Words are 8 bytes in the section's byte order.": the same row and 8 bytes in both
+saved : ℤ → Row
+saved offset =
+    record { start = 0; base = Sp; cfa = record { by = offset }; ra = AtOffset (record { by = negsuc 7 }); fp = Register; signed = false }
+
+little : fromRow (aarch64Shape Little) stack loaded (leaf 0) (saved (pos 8))
+    ≡ Caller (record { pc = 0x401008; sp = 0x7008; fp = 0x7030; lr = 0x401008; first = 0 })
+unfolding callerOpened stack loaded leaf saved
+little = refl
+
+big : fromRow (aarch64Shape Big) stack loaded (leaf 0) (saved (pos 8))
+    ≡ Caller (record { pc = 0x0810400000000000; sp = 0x7008; fp = 0x7030; lr = 0x401008; first = 0 })
+unfolding callerOpened stack loaded leaf saved
+big = refl
+
+-- ---- every other refusal, in document 01's order
+
+-- the first step of K10 at another PC
+at-pc : ℕ → Registers
+at-pc pc = record { pc = pc; sp = 0x7000; fp = 0x7030; lr = 0; first = 1 }
+
+-- the window lies so that it ends here, for 64 bytes
+ends : ℕ → Where
+ends end = record { section = 0x400000; stack = end - 64 }
+
+-- S, its first function with one row, which starts at 4
+late : List ℕ
+late = set (set (set sectionS 36 0x03) 40 0x01) 12 0x02
+
+answers : List (Step × Step)
+answers =
+    (stepIn (take 77 sectionS) stack (ends (2 ^ 64 + 1)) start, Refused start 41)
+    ∷ (stepIn (take 77 sectionS) stack (ends (2 ^ 64)) start, Unsound start 8 0)
+    ∷ (stepIn overlappingS stack loaded start, Unsound start 14 1)
+    ∷ (stepIn sectionS stack loaded (at-pc 0x401020), Refused (at-pc 0x401020) 21)
+    ∷ (stepIn unsortedS stack loaded (at-pc 0x40101f), Refused (at-pc 0x40101f) 22)
+    ∷ (stepIn late stack loaded (at-pc 0x401003), Refused (at-pc 0x401003) 23)
+    ∷ (stepIn sectionS stack (ends (2 ^ 64)) start, Refused start 28)
+    ∷ []
+
+each-answer : map (λ pair. pair .0) answers ≡ map (λ pair. pair .1) answers
+unfolding callerOpened sectionS overlappingS unsortedS late stack loaded ends start at-pc answers
+each-answer = refl
+
+-- 24 before all that follows; the row's CFA is below 0 as well
+signedRow : Row
+signedRow = record { start = 0; base = Sp; cfa = record { by = negsuc 0x7fff }; ra = Register; fp = Register; signed = true }
+
+signed-first : (order : Order) → fromRow (aarch64Shape order) stack loaded (leaf 0) signedRow ≡ Refused (leaf 0) 24
+unfolding callerOpened loaded leaf signedRow
+signed-first order = refl
+
+-- 25 below 0; on AMD64 the bit says nothing
+below-zero : fromRow amd64Shape stack loaded (leaf 0) signedRow ≡ Refused (leaf 0) 25
+unfolding callerOpened loaded leaf signedRow
+below-zero = refl
+
+-- ---- "Trusting LR in the second frame."
+
+-- the step from the two places by the test for 27, and ours
+spotsBy : (Registers → Spot → Bool) → Shape → List ℕ → Where → Registers → ℕ → Spot → Spot → Step
+spotsBy lost shape stack lies registers cfa ra fp =
+    elim (lost registers ra) [
+      | true ↦ Refused registers 27
+      | false ↦ withValues registers cfa (valuesOf stack (lies .stack) (shape .order) registers ra fp)
+    ]
+
+our-27 : (shape : Shape) (stack : List ℕ) (lies : Where) (registers : Registers) (cfa : ℕ) (ra fp : Spot)
+    → fromSpots shape stack lies registers cfa ra fp ≡ spotsBy isLost shape stack lies registers cfa ra fp
+unfolding fromSpots spotsBy
+our-27 shape stack lies registers cfa ra fp = refl
+
+trusting : Registers → Spot → Bool
+trusting registers ra = false
+
+-- RA is in its register, without the mark
+trusting-differs : (order : Order)
+    → ¬ (spotsBy trusting (aarch64Shape order) stack loaded (leaf 0) 0x7010 Kept Kept
+    ≡ fromSpots (aarch64Shape order) stack loaded (leaf 0) 0x7010 Kept Kept)
+unfolding callerOpened loaded leaf spotsBy trusting
+trusting-differs order e = let z : _≡_ {A = ℕ} 0 27 = ap stepNumber e in omega arith
+
+-- the same slip by a mark that is kept: "no mark"
+keeping : Registers → ℕ → Values → Step
+keeping registers cfa NoRa = Refused registers 28
+keeping registers cfa NoFp = Refused registers 28
+keeping registers cfa (Both ra fp) = Caller (record { pc = ra; sp = callerSp cfa; fp = fp; lr = registers .lr; first = registers .first })
+
+keeping-differs : ¬ (keeping (leaf 1) 0x7000 (Both 0x401008 0x7030) ≡ withValues (leaf 1) 0x7000 (Both 0x401008 0x7030))
+unfolding callerOpened leaf keeping
+keeping-differs e = let z : _≡_ {A = ℕ} 1 0 = ap (λ o. stepRegisters o .first) e in omega arith
+
+-- ---- 26 by "CFA below SP" alone
+
+cfaBy : (Registers → ℕ → Bool) → Shape → List ℕ → Where → Registers → Row → ℕ → Step
+cfaBy low shape stack lies registers row cfa =
+    elim (low registers (callerSp cfa)) [
+      | true ↦ Refused registers 26
+      | false ↦ fromSpots shape stack lies registers cfa (spotOf cfa (row .ra)) (spotOf cfa (row .fp))
+    ]
+
+our-26 : (shape : Shape) (stack : List ℕ) (lies : Where) (registers : Registers) (row : Row) (cfa : ℕ)
+    → fromCfa shape stack lies registers row cfa ≡ cfaBy isLow shape stack lies registers row cfa
+unfolding fromCfa cfaBy
+our-26 shape stack lies registers row cfa = refl
+
+onlyBelow : Registers → ℕ → Bool
+onlyBelow registers sp = ltb sp (registers .sp)
+
+-- CFA equals SP without the mark, and RA lies at CFA - 8, inside the window
+level : Registers
+level = record { pc = 0x401044; sp = 0x7008; fp = 0x7030; lr = 0; first = 0 }
+
+below-differs : ¬ (cfaBy onlyBelow amd64Shape stack loaded level (saved (pos 0)) 0x7008
+    ≡ fromCfa amd64Shape stack loaded level (saved (pos 0)) 0x7008)
+unfolding callerOpened stack loaded level saved cfaBy onlyBelow
+below-differs e = let z : _≡_ {A = ℕ} 0 26 = ap stepNumber e in omega arith
+
+-- ---- 28 for FP's word tried before 27; no section has a row that shows it, since FP is saved only where RA is (`fp-with-ra`)
+
+orOutside : Registers → Word → Step → Step
+orOutside registers word.Outside next = Refused registers 28
+orOutside registers (word.Is fp) next = next
+
+fpBefore : Shape → List ℕ → Where → Registers → ℕ → Spot → Spot → Step
+fpBefore shape stack lies registers cfa ra fp =
+    orOutside registers (valueOf stack (lies .stack) (shape .order) (registers .fp) fp) (fromSpots shape stack lies registers cfa ra fp)
+
+-- RA is in its register, without the mark, and FP's word ends past the window
+early-differs : (order : Order)
+    → ¬ (fpBefore (aarch64Shape order) stack loaded (leaf 0) 0x7010 Kept (Saved 0x7039)
+    ≡ fromSpots (aarch64Shape order) stack loaded (leaf 0) 0x7010 Kept (Saved 0x7039))
+unfolding callerOpened stack loaded leaf fpBefore orOutside
+early-differs order e = let z : _≡_ {A = ℕ} 28 27 = ap stepNumber e in omega arith
+
+-- ---- CFA wrapped to 64 bits
+
+rowBy : (ℤ → Address) → Shape → List ℕ → Where → Registers → Row → Step
+rowBy memory shape stack lies registers row =
+    elim (isSigned shape row) [
+      | true ↦ Refused registers 24
+      | false ↦ withCfa shape stack lies registers row (memory (cfaOf registers row))
+    ]
+
+our-25 : (shape : Shape) (stack : List ℕ) (lies : Where) (registers : Registers) (row : Row)
+    → fromRow shape stack lies registers row ≡ rowBy inMemory shape stack lies registers row
+unfolding fromRow rowBy
+our-25 shape stack lies registers row = refl
+
+wrapped : ℤ → Address
+wrapped (pos n) = address.At (n % 2 ^ 64)
+wrapped (negsuc n) = address.At (2 ^ 64 - 1 - n % 2 ^ 64)
+
+-- FP is 2^64 - 8, so that FP + 16, wrapped, is 8; the window lies at 0
+high : Registers
+high = record { pc = 0x401008; sp = 0; fp = 0xfffffffffffffff8; lr = 0; first = 0 }
+
+bottom : Where
+bottom = record { section = 0x400000; stack = 0 }
+
+fromFp : Row
+fromFp =
+    record { start = 4; base = Fp; cfa = record { by = pos 16 }; ra = AtOffset (record { by = negsuc 7 }); fp = Register; signed = false }
+
+wrapped-differs : ¬ (rowBy wrapped amd64Shape stack bottom high fromFp ≡ fromRow amd64Shape stack bottom high fromFp)
+unfolding callerOpened stack bottom high fromFp rowBy wrapped
+wrapped-differs e = let z : _≡_ {A = ℕ} 0 25 = ap stepNumber e in omega arith
+
+-- ---- a word that ends one byte past the window
+
+valueBy : (List ℕ → ℕ → ℕ → Bool) → List ℕ → ℕ → Order → ℕ → Spot → Word
+valueBy inside stack lies order register Kept = word.Is register
+valueBy inside stack lies order register (Saved at) =
+    elim (inside stack lies at) [ true ↦ word.Is (fieldOf stack (at - lies) 8 order) | false ↦ word.Outside ]
+valueBy inside stack lies order register Beyond = word.Outside
+
+our-28 : (stack : List ℕ) (lies : ℕ) (order : Order) (register : ℕ) (spot : Spot)
+    → valueOf stack lies order register spot ≡ valueBy wholly stack lies order register spot
+unfolding callerOpened valueBy
+our-28 stack lies order register Kept = refl
+our-28 stack lies order register (Saved at) = refl
+our-28 stack lies order register Beyond = refl
+
+loose : List ℕ → ℕ → ℕ → Bool
+loose stack lies at = leb lies at && leb (at + 7) (lies + length stack)
+
+-- K12's second step: RA's word is the last 8 of 64 bytes
+loose-differs : (order : Order)
+    → ¬ (withValues second 0x7040
+    (bothOf (valueBy loose (take 63 stack) 0x7000 order 0 (Saved 0x7038)) (valueBy loose (take 63 stack) 0x7000 order 0x7030 (Saved 0x7030)))
+    ≡ withValues second 0x7040
+    (bothOf (valueOf (take 63 stack) 0x7000 order 0 (Saved 0x7038)) (valueOf (take 63 stack) 0x7000 order 0x7030 (Saved 0x7030))))
+unfolding callerOpened stack second valueBy loose
+loose-differs order e = let z : _≡_ {A = ℕ} 0 28 = ap stepNumber e in omega arith
+
+-- ---- a step that answers the same of all registers, already in S
+
+not-one-answer : (answer : Step) → ¬ ((registers : Registers) → stepIn sectionS stack loaded registers ≡ answer)
+unfolding stepRegisters second last
+not-one-answer answer all =
+    let same : Caller second ≡ Caller last = sym K10-first ∙ all start ∙ sym (all second) ∙ K10-second in
+    let z : _≡_ {A = ℕ} 0x7008 0x7040 = ap (λ o. stepRegisters o .sp) same in
+    omega arith

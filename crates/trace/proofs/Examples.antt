@@ -1,0 +1,201 @@
+-- Traces of written-out stacks, each by computation: cases K10 to K12 of document 01, the numbers 41 to 43 and 1; and wrong traces,
+-- of the kinds that document 01 lists, each with a case on which it answers otherwise.
+-- Assumes nothing.
+use mathlib.Core.Path.{_≡_, refl, sym, _∙_, ap}
+use mathlib.Core.List.{List, [], _∷_, _++_}
+use Prim.Native.Nat.{ℕ, zero, suc, _-_, _^_}
+use native.Mathlib.Omega.{arith}
+use lib.ListN.{length, getD, take, replicate}
+use Rattle.section.specs.SectionS.{sectionS}
+use Rattle.accept.specs.Checks.{verdict}
+use Rattle.caller.specs.declared.registers.Registers.{Registers}
+use Rattle.caller.specs.declared.registers.Step.{Step}
+use Rattle.caller.specs.declared.registers.Step.the-variants as stepped
+use Rattle.caller.specs.declared.registers.Where.{Where}
+use Rattle.trace.specs.Cases.{noFrame, stepAt, Walks}
+use Rattle.trace.specs.Opened.{traceOpened}
+use Rattle.trace.specs.Trace.{Walk, Trace, inForce, frameOf, ended, withFrame, unlessOutermost, onward, walkOf, withMark, doorFault, afterDoor, afterCheck, allWords, over, tracedAs, traced, traceOf, endingNumber}
+use Rattle.trace.specs.declared.answer.Ending.the-variants.{Outermost, Full, Refused, Unsound}
+use Rattle.trace.specs.declared.answer.Frame.{Frame}
+use Rattle.trace.proofs.Exactly.{number-30-exactly-when}
+
+-- ---- "PC 0x401044, SP 0x7000, FP 0x7030; stack at 0x7000, 64 bytes, all zero but the word 0x401008 at 0x7000"; LR and the mark
+-- are any
+
+stack : List ℕ
+stack = 0x08 ∷ 0x10 ∷ 0x40 ∷ replicate 61 0
+
+lies : Where
+lies = record { section = 0x400000; stack = 0x7000 }
+
+registers : ℕ → ℕ → Registers
+registers lr first = record { pc = 0x401044; sp = 0x7000; fp = 0x7030; lr = lr; first = first }
+
+-- "limit 2. Words 0x7008, 0x401008, 0x7030, 0x7040, 0, 0; two frames, ending 30."
+K10 : (lr first a b c d e f : ℕ)
+    → traceOf sectionS stack lies (registers lr first) 2 (a ∷ b ∷ c ∷ d ∷ e ∷ f ∷ [])
+    ≡ tracedAs (record { ending = Outermost; frames = 2 }) (0x7008 ∷ 0x401008 ∷ 0x7030 ∷ 0x7040 ∷ 0 ∷ 0 ∷ [])
+unfolding traceOpened sectionS stack lies registers
+K10 lr first a b c d e f = refl
+
+-- so the case of 30 in specs/Cases holds here
+K10-case : (lr first a b c d e f : ℕ)
+    → (frames : List Frame) × Walks sectionS stack lies (registers lr first) 2 (a ∷ b ∷ c ∷ d ∷ e ∷ f ∷ []) frames Outermost
+unfolding tracedAs endingNumber
+K10-case lr first a b c d e f =
+    number-30-exactly-when sectionS stack lies (registers lr first) 2 (a ∷ b ∷ c ∷ d ∷ e ∷ f ∷ []) .0
+    (ap (λ t. endingNumber (t .answer .ending)) (K10 lr first a b c d e f))
+
+-- "Words after the written frames keep what they held."
+K10-kept : (lr first a b c d e f g h : ℕ)
+    → traceOf sectionS stack lies (registers lr first) 2 (a ∷ b ∷ c ∷ d ∷ e ∷ f ∷ g ∷ h ∷ [])
+    ≡ tracedAs (record { ending = Outermost; frames = 2 }) (0x7008 ∷ 0x401008 ∷ 0x7030 ∷ 0x7040 ∷ 0 ∷ 0 ∷ g ∷ h ∷ [])
+unfolding traceOpened sectionS stack lies registers
+K10-kept lr first a b c d e f g h = refl
+
+-- "K11: limit 1, one frame, 31."
+K11 : (lr first a b c : ℕ)
+    → traceOf sectionS stack lies (registers lr first) 1 (a ∷ b ∷ c ∷ [])
+    ≡ tracedAs (record { ending = Full; frames = 1 }) (0x7008 ∷ 0x401008 ∷ 0x7030 ∷ [])
+unfolding traceOpened sectionS stack lies registers
+K11 lr first a b c = refl
+
+-- "K12: limit 2 again, 63 stack bytes, one frame, 28."
+K12 : (lr first a b c d e f : ℕ)
+    → traceOf sectionS (take 63 stack) lies (registers lr first) 2 (a ∷ b ∷ c ∷ d ∷ e ∷ f ∷ [])
+    ≡ tracedAs (record { ending = Refused 28; frames = 1 }) (0x7008 ∷ 0x401008 ∷ 0x7030 ∷ d ∷ e ∷ f ∷ [])
+unfolding traceOpened sectionS stack lies registers
+K12 lr first a b c d e f = refl
+
+-- ---- refused before the walk: no frames, and the buffer as it was
+
+-- what a trace answers that is refused so
+refusedWith : ℕ → List ℕ → Trace
+refusedWith number old = tracedAs (record { ending = Refused number; frames = 0 }) old
+
+-- one past the end of memory; the limit and the buffer are wrong as well
+past-memory : traceOf [] (0 ∷ 0 ∷ []) (record { section = 0; stack = 2 ^ 64 - 1 }) (registers 0 0) 257 [] ≡ refusedWith 41 []
+unfolding traceOpened registers refusedWith
+past-memory = refl
+
+-- a window may end where memory does
+limit-above : traceOf [] (0 ∷ 0 ∷ []) (record { section = 0; stack = 2 ^ 64 - 2 }) (registers 0 0) 257 [] ≡ refusedWith 42 []
+unfolding traceOpened registers refusedWith
+limit-above = refl
+
+too-few-words : traceOf sectionS stack lies (registers 0 0) 2 (replicate 5 7) ≡ refusedWith 43 (replicate 5 7)
+unfolding traceOpened sectionS stack lies registers refusedWith
+too-few-words = refl
+
+most-words : traceOf [] stack lies (registers 0 0) 256 (replicate 767 7) ≡ refusedWith 43 (replicate 767 7)
+unfolding traceOpened stack lies registers refusedWith
+most-words = refl
+
+-- "Limit 0 means 64": 192 words
+limit-0 : traceOf [] stack lies (registers 0 0) 0 (replicate 191 7) ≡ refusedWith 43 (replicate 191 7)
+unfolding traceOpened stack lies registers refusedWith
+limit-0 = refl
+
+limit-0-fits : traceOf [] stack lies (registers 0 0) 0 (replicate 192 7)
+    ≡ tracedAs (record { ending = Unsound 1 0; frames = 0 }) (replicate 192 7)
+unfolding traceOpened stack lies registers
+limit-0-fits = refl
+
+-- ---- wrong traces
+
+-- the trace by how the walk is made, how it starts and what it leaves, and ours
+abbrev Walking : Type 0
+Walking = (Registers → Step) → ℕ → Registers → Walk
+
+traceBy : Walking → (Registers → Registers) → (Walk → List ℕ → Trace) → List ℕ → List ℕ → Where → Registers → ℕ → List ℕ → Trace
+traceBy walk start leave s window at from limit old =
+    leave
+    (afterDoor (doorFault window at limit (length old)) (afterCheck (verdict s) (walk (stepAt s window at) (inForce limit) (start from))))
+    old
+
+ours : (s window : List ℕ) (at : Where) (from : Registers) (limit : ℕ) (old : List ℕ)
+    → traceOf s window at from limit old ≡ traceBy walkOf withMark traced s window at from limit old
+unfolding traceOpened traceBy
+ours s window at from limit old = refl
+
+-- K10, with eight words of 7
+K10-by : Walking → (Registers → Registers) → (Walk → List ℕ → Trace) → Trace
+K10-by walk start leave = traceBy walk start leave sectionS stack lies (registers 0 0) 2 (replicate 8 7)
+
+K10-ours : Trace
+K10-ours = traceOf sectionS stack lies (registers 0 0) 2 (replicate 8 7)
+
+-- "a trace that writes nothing"
+silent : Walk → List ℕ → Trace
+silent walk old = tracedAs (record { ending = walk .ending; frames = length (walk .frames) }) old
+
+silent-differs : ¬ (K10-by walkOf withMark silent ≡ K10-ours)
+unfolding traceOpened sectionS stack lies registers traceBy K10-by K10-ours silent
+silent-differs e = let z : _≡_ {A = ℕ} 7 0x7008 = ap (λ t. getD (t .words) 0 0) e in omega arith
+
+-- a word past the frames is written
+overrun : Walk → List ℕ → Trace
+overrun walk old =
+    tracedAs (record { ending = walk .ending; frames = length (walk .frames) }) (over (allWords (walk .frames) ++ (0 ∷ [])) old)
+
+overrun-differs : ¬ (K10-by walkOf withMark overrun ≡ K10-ours)
+unfolding traceOpened sectionS stack lies registers traceBy K10-by K10-ours overrun
+overrun-differs e = let z : _≡_ {A = ℕ} 0 7 = ap (λ t. getD (t .words) 6 0) e in omega arith
+
+-- "a trace that works out the first frame and repeats or invents the others"
+repeating : Walking
+repeating step zero from = ended Full
+repeating step (suc left) from = onward (step from) (λ caller. repeating step left from)
+
+repeating-differs : ¬ (K10-by repeating withMark traced ≡ K10-ours)
+unfolding traceOpened sectionS stack lies registers traceBy K10-by K10-ours repeating
+repeating-differs e = let z : _≡_ {A = ℕ} 0x7008 0x7040 = ap (λ t. getD (t .words) 3 0) e in omega arith
+
+-- the count and the ending are right, the second frame is made up
+inventing : Walking
+inventing step zero from = ended Full
+inventing step (suc left) from = onward (step from) (λ caller. withFrame noFrame (ended Outermost))
+
+inventing-counts : K10-by inventing withMark traced .answer ≡ K10-ours .answer
+unfolding traceOpened sectionS stack lies registers traceBy K10-by K10-ours inventing
+inventing-counts = refl
+
+inventing-differs : ¬ (K10-by inventing withMark traced ≡ K10-ours)
+unfolding traceOpened sectionS stack lies registers traceBy K10-by K10-ours inventing
+inventing-differs e = let z : _≡_ {A = ℕ} 0 0x7040 = ap (λ t. getD (t .words) 3 0) e in omega arith
+
+-- "RA 0 ends it with 30 (outermost), also in the last allowed frame": one to which the full limit comes first
+unlessFull : ℕ → Walk → Walk
+unlessFull zero rest = ended Full
+unlessFull (suc left) rest = rest
+
+hurried : ℕ → Step → (Registers → Walk) → Walk
+hurried left (stepped.Caller caller) rest = withFrame (frameOf caller) (unlessFull left (unlessOutermost (caller .pc) (rest caller)))
+hurried left (stepped.Unsound old number index) rest = ended (Refused number)
+hurried left (stepped.Refused old number) rest = ended (Refused number)
+
+fullFirst : Walking
+fullFirst step zero from = ended Full
+fullFirst step (suc left) from = hurried left (step from) (fullFirst step left)
+
+fullFirst-differs : ¬ (K10-by fullFirst withMark traced ≡ K10-ours)
+unfolding traceOpened sectionS stack lies registers traceBy K10-by K10-ours unlessFull hurried fullFirst
+fullFirst-differs e = let z : _≡_ {A = ℕ} 31 30 = ap (λ t. endingNumber (t .answer .ending)) e in omega arith
+
+-- "The walk starts with the mark set", whatever mark is handed in; here CFA is SP, and without the mark that is 26
+atSp : Registers
+atSp = record { pc = 0x401008; sp = 0x7010; fp = 0x7000; lr = 0; first = 0 }
+
+marked-trace : traceOf sectionS stack lies atSp 1 (7 ∷ 7 ∷ 7 ∷ [])
+    ≡ tracedAs (record { ending = Outermost; frames = 1 }) (0x7010 ∷ 0 ∷ 0x401008 ∷ [])
+unfolding traceOpened sectionS stack lies atSp
+marked-trace = refl
+
+unmarked-trace : traceBy walkOf (λ from. from) traced sectionS stack lies atSp 1 (7 ∷ 7 ∷ 7 ∷ []) ≡ refusedWith 26 (7 ∷ 7 ∷ 7 ∷ [])
+unfolding traceOpened sectionS stack lies atSp traceBy refusedWith
+unmarked-trace = refl
+
+unmarked-differs : ¬ (traceBy walkOf (λ from. from) traced sectionS stack lies atSp 1 (7 ∷ 7 ∷ 7 ∷ [])
+    ≡ traceOf sectionS stack lies atSp 1 (7 ∷ 7 ∷ 7 ∷ []))
+unfolding tracedAs refusedWith
+unmarked-differs e = let z : _≡_ {A = ℕ} 0 1 = ap (λ t. t .answer .frames) (sym unmarked-trace ∙ e ∙ marked-trace) in omega arith
