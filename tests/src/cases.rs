@@ -1,19 +1,26 @@
-//! The named cases: sections in a fixed order, each with the verdict that document 01 gives it, and lookups to be made
-//! in it.
+//! The named cases: sections in a fixed order, each with the verdict that document 01 gives it, and lookups and walks
+//! to be made in it.
 //!
 //! A verdict stands as a literal beside the construction of its section; it is what the author reads in document 01,
 //! not what the reader answers. A name begins with the number expected, or with `ok` where the section is accepted.
 //! What is too large to be stored is in `large`.
 
 mod blocks;
+mod cfa;
+mod chains;
 mod corpus;
+mod corpus_walks;
 mod counts;
+mod depths;
 mod document;
 mod entries;
 mod far;
 mod forms;
 mod harmless;
 mod header;
+mod limits;
+mod link_register;
+mod marks;
 mod overlaps;
 mod precedence;
 pub(crate) mod questions;
@@ -21,7 +28,10 @@ mod relative;
 mod rows;
 mod sizes;
 mod starts;
+mod step_order;
 mod twins;
+pub(crate) mod walks;
+mod windows;
 
 pub use corpus::{corpus_section, CORPUS, CORPUS_VERDICTS};
 pub use document::S;
@@ -31,24 +41,32 @@ use crate::maker::{Function, Machine, Row, Section, SORTED};
 use crate::reader::Verdict;
 use crate::ADDRESS;
 use questions::{at_edges, section_refused};
-use std::collections::BTreeSet;
+use std::collections::{BTreeMap, BTreeSet};
+use walks::Expected;
 
 pub struct Case {
     pub name: String,
     pub section: Vec<u8>,
     pub expected: Verdict,
     pub questions: Vec<Question>,
+    pub walks: Vec<Expected>,
 }
 
 impl Case {
     /// A case of which nothing is asked but the verdict.
     pub fn new(name: impl Into<String>, section: Vec<u8>, expected: Verdict) -> Case {
-        Case { name: name.into(), section, expected, questions: Vec::new() }
+        Case { name: name.into(), section, expected, questions: Vec::new(), walks: Vec::new() }
     }
 
     /// The same, and these questions.
     pub fn asked(mut self, questions: Vec<Question>) -> Case {
         self.questions.extend(questions);
+        self
+    }
+
+    /// The same, and these walks.
+    pub fn walked(mut self, walks: Vec<Expected>) -> Case {
+        self.walks.extend(walks);
         self
     }
 }
@@ -87,9 +105,18 @@ pub fn all() -> Vec<Case> {
         far::all(),
         twins::all(),
         counts::all(),
+        cfa::all(),
+        windows::all(),
+        link_register::all(),
+        marks::all(),
+        step_order::all(),
+        limits::all(),
+        depths::all(),
+        chains::all(),
     ];
     let mut cases: Vec<Case> = groups.into_iter().flatten().collect();
     ask_of_refused(&mut cases);
+    walk_in_refused(&mut cases);
     cases
 }
 
@@ -102,6 +129,21 @@ fn ask_of_refused(cases: &mut [Case]) {
                 let expected = section_refused(number, index);
                 let ask = |(address, pc)| Question { address, pc, expected };
                 case.questions.extend([(0x40_0000, 0x40_1204), (u64::MAX, 0)].map(ask));
+            }
+        }
+    }
+}
+
+// Walks in the first two cases of every number and the first of every number and index: the section's refusal comes
+// before whatever a step would say, and behind 41, and for a trace behind 42 and 43.
+fn walk_in_refused(cases: &mut [Case]) {
+    let (mut walked, mut times) = (BTreeSet::new(), BTreeMap::<u64, u32>::new());
+    for case in cases {
+        if let Verdict::Refused { number, index } = case.expected {
+            let before = times.get(&number).copied().unwrap_or(0);
+            if walked.insert((number, index)) || before < 2 {
+                times.insert(number, before + 1);
+                case.walks.extend(walks::in_refused(number, index, before == 0));
             }
         }
     }
@@ -154,8 +196,8 @@ fn sound_row(machine: Machine, function: u8, row: u8) -> Row {
 #[cfg(test)]
 mod tests {
     use super::*;
+    use crate::obvious::Meaning;
     use crate::{in_repository, obvious, pack, reader};
-    use std::collections::BTreeMap;
     use std::fs;
 
     #[test]
@@ -203,6 +245,55 @@ mod tests {
             let enough = if (1..=15).contains(&number) { 2 } else { 50 };
             assert!(count >= enough, "{number} is answered {count} times");
         }
+    }
+
+    #[test]
+    fn every_walk_comes_to_what_is_stated_and_by_the_definition() {
+        for case in all() {
+            let meaning = Meaning::read(&case.section);
+            for (walk, expected) in &case.walks {
+                assert_eq!(walk.by_reader(&case.section), *expected, "{}, {walk:x?}: the author", case.name);
+                assert_eq!(walk.by_definition(&meaning), *expected, "{}, {walk:x?}: the definition", case.name);
+            }
+        }
+    }
+
+    #[test]
+    fn every_number_ends_steps_and_traces() {
+        let mut steps: BTreeMap<u64, usize> = BTreeMap::new();
+        let mut traces: BTreeMap<u64, usize> = BTreeMap::new();
+        for case in all() {
+            for (place, (walk, walked)) in case.walks.iter().enumerate() {
+                *steps.entry(walked.step.number()).or_default() += 1;
+                *traces.entry(walked.traced.ending.number()).or_default() += 1;
+                assert!(walk.words <= pack::MOST_WORDS);
+                let again = case.walks[..place].iter().any(|(before, _)| before == walk);
+                assert!(!again, "{} has a walk twice: {walk:x?}", case.name);
+            }
+        }
+        println!("how often each number ends a step (0: a caller): {steps:?}");
+        println!("how often each number ends a trace: {traces:?}");
+        let sections = [1].into_iter().chain(3..=15);
+        for number in sections.clone().chain(21..=28).chain([0, 41]) {
+            assert!(steps.get(&number).is_some_and(|&count| count >= 2), "{number} ends steps: {steps:?}");
+        }
+        for number in sections.chain(21..=28).chain([30, 31, 41, 42, 43]) {
+            assert!(traces.get(&number).is_some_and(|&count| count >= 2), "{number} ends traces: {traces:?}");
+        }
+    }
+
+    // By ABI: 1 and 2 are AArch64, where 24 and 27 can come too; 3 is AMD64.
+    #[test]
+    fn every_number_ends_walks_on_every_machine() {
+        let mut seen: BTreeMap<u8, BTreeSet<u64>> = BTreeMap::new();
+        for case in all().iter().filter(|case| case.expected == ACCEPTED) {
+            for (_, walked) in &case.walks {
+                seen.entry(case.section[4]).or_default().extend([walked.step.number(), walked.traced.ending.number()]);
+            }
+        }
+        let on_amd64 = BTreeSet::from([0, 21, 22, 23, 25, 26, 28, 30, 31, 41, 42, 43]);
+        let on_aarch64: BTreeSet<u64> = on_amd64.iter().copied().chain([24, 27]).collect();
+        assert_eq!(seen, BTreeMap::from([(1, on_aarch64.clone()), (2, on_aarch64), (3, on_amd64)]));
     }
 
     #[test]

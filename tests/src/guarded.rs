@@ -1,4 +1,4 @@
-//! Memory between two forbidden pages: a read outside what lies flush against one of them ends the program.
+//! Memory between two forbidden pages: a read or a write outside what lies flush against one of them ends the program.
 #![allow(unsafe_code)]
 
 use std::ffi::{c_int, c_void};
@@ -52,6 +52,32 @@ impl Guarded {
     pub fn at_end(&mut self, bytes: &[u8]) -> &[u8] {
         assert!(bytes.len() <= self.room);
         self.copy(bytes, self.room - bytes.len())
+    }
+
+    /// A copy of words, to be written to, whose first byte follows a forbidden page.
+    pub fn words_at_front(&mut self, words: &[u64]) -> &mut [u64] {
+        self.copy_words(words, 0)
+    }
+
+    /// The same with the last byte before a forbidden page.
+    ///
+    /// # Panics
+    /// Where there is no room for it.
+    pub fn words_at_end(&mut self, words: &[u64]) -> &mut [u64] {
+        let bytes = size_of_val(words);
+        assert!(bytes <= self.room);
+        self.copy_words(words, self.room - bytes)
+    }
+
+    fn copy_words(&mut self, words: &[u64], place: usize) -> &mut [u64] {
+        assert!(place + size_of_val(words) <= self.room);
+        // SAFETY: as for bytes. The room begins at a page and ends at one, so that every place that is a multiple of 8
+        // bytes from either is one for words.
+        unsafe {
+            let to = self.base.add(PAGE + place).cast::<u64>();
+            ptr::copy_nonoverlapping(words.as_ptr(), to, words.len());
+            slice::from_raw_parts_mut(to, words.len())
+        }
     }
 
     fn copy(&mut self, bytes: &[u8], place: usize) -> &[u8] {

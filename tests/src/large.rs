@@ -5,8 +5,9 @@
 use crate::cases::{Case, Question};
 use crate::maker::{FirstRow, Function, Machine, Row, Section, SORTED};
 use crate::obvious::{described, halvings_of};
-use crate::reader::{Answer, Outcome, Verdict};
+use crate::reader::{Answer, Ending, Outcome, Registers, Step, Verdict, Where};
 use crate::stream::Random;
+use crate::walk::{Walk, Walked};
 use crate::ADDRESS;
 
 const LIMIT: usize = 16_777_216;
@@ -40,8 +41,29 @@ pub fn at_the_limit() -> impl Iterator<Item = Case> {
     AT_THE_LIMIT.into_iter().map(|(name, length, edit, expected)| {
         let mut section = of_length(length);
         edit(&mut section);
-        Case::new(name, section.bytes(), expected).asked(questions(expected))
+        Case::new(name, section.bytes(), expected).asked(questions(expected)).walked(vec![walk(expected)])
     })
+}
+
+// From the last function to the first, both at their first rows, CFA being SP + 8, and no farther; a refused section
+// refuses the step and the trace.
+fn walk(verdict: Verdict) -> (Walk, Walked) {
+    let pc_of = |function: u64| ADDRESS.wrapping_add_signed(start_of(function as usize));
+    let registers = Registers { pc: pc_of(LAST), sp: 0x7000, fp: 0x7777, lr: 0, first: 1 };
+    let stack = [pc_of(0), 0].map(u64::to_le_bytes).concat();
+    let walk = Walk { lies: Where { section: ADDRESS, stack: 0x7000 }, registers, stack, limit: 0, words: 192 };
+    let walked = match verdict {
+        Verdict::Refused { number, index } => {
+            let step = Step::Unsound { old: registers, number, index };
+            walk.stated(step, &[], Ending::Unsound { number, index })
+        }
+        Verdict::Accepted => {
+            let caller = Registers { pc: pc_of(0), sp: 0x7008, fp: 0x7777, lr: 0, first: 0 };
+            let frames = [[0x7008, pc_of(0), 0x7777], [0x7010, 0, 0x7777]];
+            walk.stated(Step::Caller(caller), &frames, Ending::Outermost)
+        }
+    };
+    (walk, walked)
 }
 
 // Lookups in the first function, the last and one between, and outside of all; a refused section refuses each.
@@ -147,6 +169,9 @@ mod tests {
             assert_eq!(check(&case.section), case.expected, "{}", case.name);
             for Question { address, pc, expected } in &case.questions {
                 assert_eq!(lookup(&case.section, *address, *pc), *expected, "{}, PC {pc:x}", case.name);
+            }
+            for (walk, expected) in &case.walks {
+                assert_eq!(walk.by_reader(&case.section), *expected, "{}", case.name);
             }
         }
     }

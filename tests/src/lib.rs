@@ -1,15 +1,17 @@
 //! The independent reader of `.sframe` sections, what it is tried on, and how the library is held against it.
 //!
-//! `reader` is written from document 01 alone, and `obvious` makes its lookups once more, slowly. `maker` builds
-//! sections the other way round, from a description to bytes, and shares nothing with it. `cases` is the fixed list of
-//! named sections and questions, `pack` the form in which they are stored, `large` the sections too big to store,
-//! `stream` an endless seeded source of more. `library` and `guarded` hold the proved library against the reader,
-//! `measured` and `timing` measure both.
+//! `reader` is written from document 01 alone, and `obvious` makes its lookups, steps and traces once more, slowly.
+//! `maker` builds sections the other way round, from a description to bytes, and shares nothing with it. `walk` is what
+//! is lent to a step and a trace, and `laid` lays long stacks for them. `cases` is the fixed list of named sections,
+//! questions and walks, `pack` the form in which they are stored, `large` the sections too big to store, `stream` an
+//! endless seeded source of more. `library` and `guarded` hold the proved library against the reader, `measured` and
+//! `timing` measure both.
 #![deny(unsafe_code)]
 
 pub mod cases;
 #[cfg(feature = "library")]
 pub mod guarded;
+pub mod laid;
 pub mod large;
 #[cfg(feature = "library")]
 pub mod library;
@@ -21,6 +23,7 @@ pub mod pack;
 pub mod reader;
 pub mod stream;
 pub mod timing;
+pub mod walk;
 
 use std::path::{Path, PathBuf};
 

@@ -1,7 +1,7 @@
 //! The proved library, called as a program in C would call it.
 #![allow(unsafe_code)]
 
-use crate::reader::{self, Base, Outcome, Place};
+use crate::reader::{self, Base, Ending, Outcome, Place};
 
 /// What `suntimpani_check` answers; number 0 is accepted.
 #[repr(C)]
@@ -34,9 +34,64 @@ pub struct Answer {
     pub signed_ra: u64,
 }
 
+#[repr(C)]
+struct Where {
+    section_address: u64,
+    stack_address: u64,
+}
+
+#[repr(C)]
+#[derive(Clone, Copy, Debug, PartialEq, Eq)]
+pub struct Registers {
+    pub pc: u64,
+    pub sp: u64,
+    pub fp: u64,
+    pub lr: u64,
+    pub first: u64,
+}
+
+/// What `suntimpani_caller` answers: number 0 with the caller's registers, or a refusal's number with the old ones.
+#[repr(C)]
+#[derive(Clone, Copy, Debug, PartialEq, Eq)]
+pub struct Step {
+    pub registers: Registers,
+    pub number: u64,
+    /// The entry's for 1 to 15, otherwise 0.
+    pub index: u64,
+}
+
+/// What `suntimpani_trace` answers besides the words of the buffer.
+#[repr(C)]
+#[derive(Clone, Copy, Debug, PartialEq, Eq)]
+pub struct Traced {
+    pub frames: u64,
+    pub ending: u64,
+    /// The entry's for 1 to 15, otherwise 0.
+    pub index: u64,
+}
+
 extern "C" {
     fn suntimpani_check(section: *const u8, length: usize) -> Verdict;
     fn suntimpani_lookup(section: *const u8, length: usize, address: u64, pc: u64) -> Answer;
+    fn suntimpani_caller(
+        section: *const u8,
+        length: usize,
+        stack: *const u8,
+        stack_length: usize,
+        lies: Where,
+        registers: Registers,
+    ) -> Step;
+    fn suntimpani_trace(
+        section: *const u8,
+        length: usize,
+        stack: *const u8,
+        stack_length: usize,
+        lies: Where,
+        registers: Registers,
+        limit: u64,
+        buffer: *mut u64,
+        words: usize,
+    ) -> Traced;
 }
 
 /// The library's verdict. An accepted section has no entry to name, so that 0 with any index but 0 stays visible.
@@ -53,6 +108,65 @@ pub fn check(section: &[u8]) -> reader::Verdict {
 pub fn lookup(section: &[u8], address: u64, pc: u64) -> Answer {
     // SAFETY: the pointer and the length are those of a slice, which is lent for the length of the call.
     unsafe { suntimpani_lookup(section.as_ptr(), section.len(), address, pc) }
+}
+
+/// The library's step, every field as it came.
+pub fn step(section: &[u8], stack: &[u8], lies: reader::Where, registers: reader::Registers) -> Step {
+    let (lies, registers) = (Where::of(lies), Registers::of(registers));
+    // SAFETY: both pointers and lengths are those of slices, which are lent for the length of the call.
+    unsafe { suntimpani_caller(section.as_ptr(), section.len(), stack.as_ptr(), stack.len(), lies, registers) }
+}
+
+/// The library's trace, every field as it came.
+pub fn trace(
+    section: &[u8],
+    stack: &[u8],
+    lies: reader::Where,
+    registers: reader::Registers,
+    limit: u64,
+    buffer: &mut [u64],
+) -> Traced {
+    let (lies, registers) = (Where::of(lies), Registers::of(registers));
+    let (section_at, stack_at, buffer_at) = (section.as_ptr(), stack.as_ptr(), buffer.as_mut_ptr());
+    let (length, stack_length, words) = (section.len(), stack.len(), buffer.len());
+    // SAFETY: the pointers and lengths are those of slices, lent for the length of the call; no other is the buffer's.
+    unsafe { suntimpani_trace(section_at, length, stack_at, stack_length, lies, registers, limit, buffer_at, words) }
+}
+
+impl Where {
+    fn of(lies: reader::Where) -> Where {
+        Where { section_address: lies.section, stack_address: lies.stack }
+    }
+}
+
+impl Registers {
+    fn of(registers: reader::Registers) -> Registers {
+        let reader::Registers { pc, sp, fp, lr, first } = registers;
+        Registers { pc, sp, fp, lr, first }
+    }
+}
+
+impl Step {
+    /// The step that the library must answer with where the reader answers with this one.
+    pub fn of(step: &reader::Step) -> Step {
+        let (registers, number, index) = match *step {
+            reader::Step::Caller(caller) => (caller, 0, 0),
+            reader::Step::Unsound { old, number, index } => (old, number, index),
+            reader::Step::Refused { old, number } => (old, number, 0),
+        };
+        Step { registers: Registers::of(registers), number, index }
+    }
+}
+
+impl Traced {
+    /// What the library must answer where the reader answers this.
+    pub fn of(traced: &reader::Traced) -> Traced {
+        let index = match traced.ending {
+            Ending::Unsound { index, .. } => index,
+            Ending::Outermost | Ending::Full | Ending::Refused(_) => 0,
+        };
+        Traced { frames: traced.frames, ending: traced.ending.number(), index }
+    }
 }
 
 impl Answer {

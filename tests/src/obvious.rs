@@ -1,8 +1,13 @@
 //! Lookups straight from the definition, slowly: every function that covers a PC is listed, every row of it is tried.
+//! `walk` makes steps and traces by them.
 //!
-//! The reader's lookups are held against it. It works on functions as values, so that they can come from a section's
+//! The reader is held against it. It works on functions as values, so that they can come from a section's
 //! bytes, by the reader, or from the description that a section was built from, past the reader altogether.
 #![forbid(unsafe_code)]
+
+mod walk;
+
+pub use walk::{step, trace, Meaning};
 
 use crate::maker;
 use crate::reader::{self, Answer, Base, Block, Function, Outcome, Place, Row, Verdict};

@@ -1,21 +1,31 @@
 //! The stored form of the cases and of what is expected of each.
 //!
-//! A case is a head of 57 bytes, the section's bytes, and 16 bytes for each question. The head is the name padded with
-//! spaces to 38, a space, the section's length as 8 decimal digits, a space, the number of questions as 8 more, and a
-//! newline. A question is the section's address and the PC, each 8 bytes little-endian. Cases follow each other with
-//! nothing between. What is expected is text, a line a case and below it a line a question.
+//! A case is a head of 66 bytes, the section's bytes, 16 bytes for each question, and the walks. The head is the name
+//! padded with spaces to 38, and behind a space each, as 8 decimal digits, the section's length, the number of
+//! questions and the number of bytes of all walks, and a newline. A question is the section's address and the PC, each
+//! 8 bytes little-endian. A walk is ten such words: section address, stack address, PC, SP, FP, LR, the mark, the
+//! limit, the number of words in the lent buffer and the length of the stack; and then the stack's bytes. Cases follow
+//! each other with nothing between, and so do walks.
+//!
+//! What is expected is text: a line a case, below it a line a question, then for each walk a line of what is lent, one
+//! of the step's answer, one of the trace's, and one a frame.
 #![forbid(unsafe_code)]
 
-use crate::reader::{Answer, Verdict};
+use crate::reader::{Answer, Ending, Registers, Step, Traced, Verdict};
+use crate::walk::{Walk, Walked};
 
 const NAME_BYTES: usize = 38;
-const HEAD_BYTES: usize = 57;
+const HEAD_BYTES: usize = 66;
+const WALK_BYTES: usize = 80;
 
 /// A pack is smaller than this many bytes.
-pub const LIMIT: usize = 1_000_000;
+pub const LIMIT: usize = 2_000_000;
 
 /// The text of what is expected is smaller than this many bytes.
-pub const EXPECTED_LIMIT: usize = 600_000;
+pub const EXPECTED_LIMIT: usize = 1_200_000;
+
+/// A walk's buffer has at most so many words.
+pub const MOST_WORDS: usize = 1_000;
 
 /// Whether a name may stand in a pack: 1 to 38 ASCII letters, digits, `_` and `-`.
 pub fn is_name(name: &str) -> bool {
@@ -26,10 +36,11 @@ pub fn is_name(name: &str) -> bool {
 /// Puts a case at the end of a pack; a question is an address and a PC.
 ///
 /// # Panics
-/// Where the name, the length or the number of questions does not fit a head.
-pub fn put_case(pack: &mut Vec<u8>, name: &str, section: &[u8], questions: &[(u64, u64)]) {
+/// Where the name, the length or the number of questions does not fit a head, or a walk's buffer is too long.
+pub fn put_case(pack: &mut Vec<u8>, name: &str, section: &[u8], questions: &[(u64, u64)], walks: &[&Walk]) {
     assert!(is_name(name), "{name:?} cannot be the name of a case");
-    let head = format!("{name:<NAME_BYTES$} {:08} {:08}\n", section.len(), questions.len());
+    let walk_bytes: usize = walks.iter().map(|walk| WALK_BYTES + walk.stack.len()).sum();
+    let head = format!("{name:<NAME_BYTES$} {:08} {:08} {walk_bytes:08}\n", section.len(), questions.len());
     assert_eq!(head.len(), HEAD_BYTES, "{name} is too long");
     pack.extend(head.as_bytes());
     pack.extend(section);
@@ -37,6 +48,19 @@ pub fn put_case(pack: &mut Vec<u8>, name: &str, section: &[u8], questions: &[(u6
         pack.extend(address.to_le_bytes());
         pack.extend(pc.to_le_bytes());
     }
+    for walk in walks {
+        assert!(walk.words <= MOST_WORDS, "{name} asks {} words of buffer", walk.words);
+        put_walk(pack, walk);
+    }
+}
+
+fn put_walk(pack: &mut Vec<u8>, walk: &Walk) {
+    let Registers { pc, sp, fp, lr, first } = walk.registers;
+    let (words, bytes) = (walk.words as u64, walk.stack.len() as u64);
+    for word in [walk.lies.section, walk.lies.stack, pc, sp, fp, lr, first, walk.limit, words, bytes] {
+        pack.extend(word.to_le_bytes());
+    }
+    pack.extend(&walk.stack);
 }
 
 /// What is expected of a case's section, as a line of text.
@@ -49,23 +73,103 @@ pub fn answer_line(address: u64, pc: u64, answer: &Answer) -> String {
     format!("  {address:016x} {pc:016x} {answer}\n")
 }
 
+/// What is expected of a walk, as lines of text.
+pub fn walk_lines(walk: &Walk, walked: &Walked) -> String {
+    let (from, lies, bytes) = (registers(&walk.registers), walk.lies, walk.stack.len());
+    let places = format!("section {:016x} stack {:016x}", lies.section, lies.stack);
+    let mut text = format!("  from {from} {places} bytes {bytes} limit {} words {}\n", walk.limit, walk.words);
+    text += &format!("    {}\n", step(&walked.step));
+    text += &format!("    {} kept {}\n", traced(&walked.traced), walked.kept());
+    for [cfa, ra, fp] in walked.frames() {
+        text += &format!("      {cfa:016x} {ra:016x} {fp:016x}\n");
+    }
+    text
+}
+
+fn registers(registers: &Registers) -> String {
+    let Registers { pc, sp, fp, lr, first } = registers;
+    format!("{pc:016x} {sp:016x} {fp:016x} {lr:016x} {first:016x}")
+}
+
+fn step(step: &Step) -> String {
+    match step {
+        Step::Caller(caller) => format!("caller {}", registers(caller)),
+        Step::Unsound { old, number, index } => format!("refused {number} at {index} {}", registers(old)),
+        Step::Refused { old, number } => format!("refused {number} {}", registers(old)),
+    }
+}
+
+fn traced(traced: &Traced) -> String {
+    let Traced { frames, ending } = traced;
+    match ending {
+        Ending::Unsound { number, index } => format!("trace {frames} frames ending {number} at {index}"),
+        _ => format!("trace {frames} frames ending {}", ending.number()),
+    }
+}
+
 #[cfg(test)]
 mod tests {
     use super::*;
-    use crate::reader::{Base, Outcome, Place, Row};
+    use crate::reader::{Base, Outcome, Place, Row, Where};
 
     #[test]
     fn a_case_is_its_head_its_bytes_and_its_questions() {
         let mut pack = Vec::new();
-        put_case(&mut pack, "ok_two-bytes", &[0xde, 0xe2], &[(0x40_0000, u64::MAX), (1, 0x0102_0304_0506_0708)]);
-        put_case(&mut pack, "1_none", &[], &[]);
+        put_case(&mut pack, "ok_two-bytes", &[0xde, 0xe2], &[(0x40_0000, u64::MAX), (1, 0x0102_0304_0506_0708)], &[]);
+        put_case(&mut pack, "1_none", &[], &[], &[]);
         let expected = [
-            &b"ok_two-bytes                           00000002 00000002\n\xde\xe2"[..],
+            &b"ok_two-bytes                           00000002 00000002 00000000\n\xde\xe2"[..],
             &b"\x00\x00\x40\x00\x00\x00\x00\x00\xff\xff\xff\xff\xff\xff\xff\xff"[..],
             &b"\x01\x00\x00\x00\x00\x00\x00\x00\x08\x07\x06\x05\x04\x03\x02\x01"[..],
-            &b"1_none                                 00000000 00000000\n"[..],
+            &b"1_none                                 00000000 00000000 00000000\n"[..],
         ];
         assert_eq!(pack, expected.concat());
+    }
+
+    fn a_walk(stack: &[u8]) -> Walk {
+        let registers = Registers { pc: 0x40_1044, sp: 0x7000, fp: u64::MAX, lr: 4, first: 0x100 };
+        let lies = Where { section: 0x40_0000, stack: 0x6ff8 };
+        Walk { lies, registers, stack: stack.to_vec(), limit: 2, words: 7 }
+    }
+
+    #[test]
+    fn a_walk_is_ten_words_and_its_stack() {
+        let mut pack = Vec::new();
+        put_case(&mut pack, "walked", &[9], &[], &[&a_walk(&[1, 2, 3]), &a_walk(&[])]);
+        let head = &b"walked                                 00000001 00000000 00000163\n\x09"[..];
+        assert_eq!(&pack[..head.len()], head);
+        let words = [0x40_0000, 0x6ff8, 0x40_1044, 0x7000, u64::MAX, 4, 0x100, 2, 7].map(u64::to_le_bytes).concat();
+        let walks = [&words[..], &3_u64.to_le_bytes(), &[1, 2, 3], &words, &0_u64.to_le_bytes()].concat();
+        assert_eq!(&pack[head.len()..], walks);
+    }
+
+    #[test]
+    fn the_lines_of_a_walk_are_what_is_lent_a_step_a_trace_and_its_frames() {
+        let walk = a_walk(&[1, 2, 3]);
+        let caller = Step::Caller(Registers { first: 0, ..walk.registers });
+        let mut walked = walk.stated(caller, &[[0x10, 0xabc, u64::MAX]], Ending::Refused(28));
+        // A word behind the frame that is not as it was does not count as kept.
+        walked.words[6] = 0;
+        let from = "0000000000401044 0000000000007000 ffffffffffffffff 0000000000000004";
+        let lent = format!(
+            "  from {from} 0000000000000100 section 0000000000400000 stack 0000000000006ff8 bytes 3 limit 2 words 7\n"
+        );
+        let answers = format!(
+            "    caller {from} 0000000000000000\n    trace 1 frames ending 28 kept 3\n      {} {} {}\n",
+            "0000000000000010", "0000000000000abc", "ffffffffffffffff"
+        );
+        assert_eq!(walk_lines(&walk, &walked), lent.clone() + &answers);
+
+        let old = walk.registers;
+        let unsound =
+            walk.stated(Step::Unsound { old, number: 14, index: 3 }, &[], Ending::Unsound { number: 14, index: 3 });
+        let answers =
+            format!("    refused 14 at 3 {from} 0000000000000100\n    trace 0 frames ending 14 at 3 kept 7\n");
+        assert_eq!(walk_lines(&walk, &unsound), lent.clone() + &answers);
+
+        let refused = walk.stated(Step::Refused { old, number: 41 }, &[], Ending::Refused(41));
+        let answers = format!("    refused 41 {from} 0000000000000100\n    trace 0 frames ending 41 kept 7\n");
+        assert_eq!(walk_lines(&walk, &refused), lent + &answers);
     }
 
     #[test]

@@ -1,14 +1,18 @@
-//! The independent reader: the section checks, the meaning of an accepted section, and lookups in it, written from
-//! document 01 alone.
+//! The independent reader: the section checks, the meaning of an accepted section, lookups in it, and steps and traces
+//! by it, written from document 01 alone.
 //!
 //! It is what the proved crates are compared with, so it shares nothing with them. Every sum is of i64 or u64 and exact:
 //! a start is an i32 plus a position below 2^24 + 1, a size is below 2^32, and row counts add up to less than 2^52.
 #![forbid(unsafe_code)]
 
+mod caller;
 mod lookup;
+mod trace;
 
+pub use caller::{step, Registers, Step, Where};
 pub use lookup::{lookup, Answer, Checked, Outcome};
 use std::fmt;
+pub use trace::{trace, Ending, Traced};
 
 const HEADER_BYTES: usize = 28;
 const ENTRY_BYTES: usize = 20;

@@ -1,12 +1,14 @@
-//! An endless source of sections, sound and damaged, the same for the same seed, and of lookups in them.
+//! An endless source of sections, sound and damaged, the same for the same seed, and of lookups and walks in them.
 //!
 //! A section begins as a random sound description. Most are then damaged: a field of the description, bytes of what
 //! was built from it, or its length. Damage likes the edges: one below, exactly at, one above.
 #![forbid(unsafe_code)]
 
 mod lookups;
+mod walks;
 
 pub use lookups::questions;
+pub use walks::{walkable, walks};
 
 use crate::maker::{FirstRow, Function, Machine, Row, Section, Start, RELATIVE, SORTED};
 
@@ -63,22 +65,29 @@ impl Iterator for Stream {
 
     fn next(&mut self) -> Option<Vec<u8>> {
         let random = &mut self.0;
-        let mut section = sound(random);
+        let section = sound(random);
         Some(match random.below(12) {
             0..=3 => section.bytes(),
-            4..=8 => {
-                random.pick(&DAMAGES)(random, &mut section);
-                section.bytes()
-            }
-            9 => {
-                for _ in 0..2 + random.below(2) {
-                    random.pick(&DAMAGES)(random, &mut section);
-                }
-                section.bytes()
-            }
-            10 => with_other_bytes(random, section.bytes()),
-            _ => with_another_length(random, section.bytes()),
+            kind => damaged(random, section, kind - 4),
         })
+    }
+}
+
+// By a kind below 8: a field of the description, a few of them, bytes, or the length.
+fn damaged(random: &mut Random, mut section: Section, kind: u64) -> Vec<u8> {
+    match kind {
+        0..=4 => {
+            random.pick(&DAMAGES)(random, &mut section);
+            section.bytes()
+        }
+        5 => {
+            for _ in 0..2 + random.below(2) {
+                random.pick(&DAMAGES)(random, &mut section);
+            }
+            section.bytes()
+        }
+        6 => with_other_bytes(random, section.bytes()),
+        _ => with_another_length(random, section.bytes()),
     }
 }
 
@@ -306,7 +315,7 @@ fn with_another_length(random: &mut Random, mut section: Vec<u8>) -> Vec<u8> {
 #[cfg(test)]
 mod tests {
     use super::*;
-    use crate::obvious::{self, described};
+    use crate::obvious::{self, described, Meaning};
     use crate::reader::{self, Verdict};
     use std::collections::BTreeMap;
 
@@ -350,6 +359,31 @@ mod tests {
         println!("how often each number is answered (0: found): {counts:?}");
         for number in [0, 21, 22, 23] {
             assert!(counts.get(&number).is_some_and(|&count| count >= 1_000), "{number}: {counts:?}");
+        }
+    }
+
+    #[test]
+    fn walks_are_by_the_definition_and_every_ending_comes() {
+        let (mut steps, mut traces) = (BTreeMap::<u64, u32>::new(), BTreeMap::<u64, u32>::new());
+        let (mut random, mut frames) = (Random::new(6), 0);
+        for turn in 0..4_000 {
+            let section = walkable(&mut random);
+            let meaning = Meaning::read(&section);
+            for walk in walks(&mut random, &section) {
+                let walked = walk.by_reader(&section);
+                assert_eq!(walked, walk.by_definition(&meaning), "section {turn}, {walk:x?}");
+                *steps.entry(walked.step.number()).or_default() += 1;
+                *traces.entry(walked.traced.ending.number()).or_default() += 1;
+                frames += walked.traced.frames;
+            }
+        }
+        println!("how often each number ends a step (0: a caller): {steps:?}");
+        println!("how often each number ends a trace, {frames} frames in all: {traces:?}");
+        for number in (21..=28).chain([0, 41]) {
+            assert!(steps.get(&number).is_some_and(|&count| count >= 50), "{number}: {steps:?}");
+        }
+        for number in (21..=28).chain([30, 31, 41, 42, 43]) {
+            assert!(traces.get(&number).is_some_and(|&count| count >= 50), "{number}: {traces:?}");
         }
     }
 

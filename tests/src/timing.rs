@@ -26,6 +26,11 @@ impl Times {
         *self.0.iter().min().expect("at least one round was timed")
     }
 
+    /// Round by round, what these times are above others of the same rounds.
+    pub fn above(&self, others: &Times) -> Times {
+        Times(self.0.iter().zip(&others.0).map(|(time, other)| time.saturating_sub(*other)).collect())
+    }
+
     /// Prints the median and the minimum.
     pub fn report(&self, who: &str) {
         let microseconds = |time: Duration| time.as_secs_f64() * 1e6;

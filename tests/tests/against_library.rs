@@ -1,20 +1,23 @@
-//! Holds the library against the independent reader, checks and lookups: the stored cases, the large ones, and a seeded
-//! stream.
+//! Holds the library against the independent reader, checks, lookups, steps and traces: the stored cases, the large
+//! ones, and a seeded stream.
 //!
 //! Everything lent to the library lies flush against a forbidden page, once at its front and once at its end, so that
-//! a read outside it ends the test.
+//! a read or a write outside it ends the test.
 
 use std::collections::BTreeMap;
+use std::fmt;
 use std::os::unix::process::ExitStatusExt;
 use std::process::Command;
 use suntimpani_tests::cases::{self, Case, Question};
 use suntimpani_tests::guarded::Guarded;
 use suntimpani_tests::reader::{self, Answer, Verdict};
-use suntimpani_tests::stream::{questions, Random, Stream};
+use suntimpani_tests::stream::{questions, walkable, walks, Random, Stream};
+use suntimpani_tests::walk::{lent, Walk, Walked};
 use suntimpani_tests::{large, library};
 
 const SEED: u64 = 20_260_101;
 const SECTIONS: usize = 300_000;
+const WALKED_SECTIONS: usize = 60_000;
 
 /// An address, a PC, and what the reader answers.
 type Answered = (u64, u64, Answer);
@@ -44,13 +47,53 @@ fn compare_case(case: &Case) {
     };
     let answers: Vec<Answered> = case.questions.iter().map(answer).collect();
     compare(&mut room, &case.section, verdict, &answers, &case.name);
+    let mut rooms = Rooms::for_sections_of(case.section.len());
+    for (walk, expected) in &case.walks {
+        assert_eq!(walk.by_reader(&case.section), *expected, "{}: the reader, {walk:x?}", case.name);
+        rooms.compare(&case.section, walk, expected, format_args!("{}", case.name));
+    }
+}
+
+/// Memory for all that a step and a trace are lent, each part between forbidden pages of its own.
+struct Rooms {
+    section: Guarded,
+    stack: Guarded,
+    words: Guarded,
+}
+
+impl Rooms {
+    fn for_sections_of(bytes: usize) -> Rooms {
+        let room = Guarded::with_room;
+        Rooms { section: room(bytes), stack: room(4_096), words: room(8_192) }
+    }
+
+    fn compare(&mut self, section: &[u8], walk: &Walk, expected: &Walked, name: fmt::Arguments) {
+        let before = lent(walk.words);
+        let (of_section, of_stack) = (self.section.at_front(section), self.stack.at_front(&walk.stack));
+        let of_words = self.words.words_at_front(&before);
+        compare_walk(of_section, of_stack, of_words, walk, expected, format_args!("{name}, at the fronts"));
+        let (of_section, of_stack) = (self.section.at_end(section), self.stack.at_end(&walk.stack));
+        let of_words = self.words.words_at_end(&before);
+        compare_walk(of_section, of_stack, of_words, walk, expected, format_args!("{name}, at the ends"));
+    }
+}
+
+// Every field of both answers, and every word of the buffer.
+fn compare_walk(section: &[u8], stack: &[u8], words: &mut [u64], walk: &Walk, expected: &Walked, name: fmt::Arguments) {
+    let step = library::step(section, stack, walk.lies, walk.registers);
+    assert_eq!(step, library::Step::of(&expected.step), "{name}: the step, {walk:x?}");
+    let traced = library::trace(section, stack, walk.lies, walk.registers, walk.limit, words);
+    assert_eq!(traced, library::Traced::of(&expected.traced), "{name}: the trace, {walk:x?}");
+    assert_eq!(words, expected.words, "{name}: the words, {walk:x?}");
 }
 
 #[test]
 fn stored_cases() {
     let cases = cases::all();
     let questions: usize = cases.iter().map(|case| case.questions.len()).sum();
+    let walks: usize = cases.iter().map(|case| case.walks.len()).sum();
     assert!(cases.len() > 1_000 && questions > 3_000, "{} cases, {questions} questions", cases.len());
+    assert!(walks > 800, "{walks} walks");
     cases.iter().for_each(compare_case);
 }
 
@@ -90,6 +133,30 @@ fn the_stream() {
     [0, 21, 22, 23].into_iter().for_each(|number| answers.assert_at_least(1_000, number));
 }
 
+// Sections that can be walked in, most of them, and every third one as the other stream has it.
+#[test]
+fn the_stream_of_walks() {
+    let (mut steps, mut traces, mut frames) = (Counts::default(), Counts::default(), 0);
+    let mut rooms = Rooms::for_sections_of(1 << 20);
+    let (mut random, mut others) = (Random::new(SEED + 2), Stream::new(SEED + 3));
+    for turn in 0..WALKED_SECTIONS {
+        let section = if turn % 3 == 0 { others.next().expect("an endless stream") } else { walkable(&mut random) };
+        for walk in walks(&mut random, &section) {
+            let walked = walk.by_reader(&section);
+            rooms.compare(&section, &walk, &walked, format_args!("section {turn} of the walks of seed {SEED}"));
+            steps.count(walked.step.number());
+            traces.count(walked.traced.ending.number());
+            frames += walked.traced.frames;
+        }
+    }
+    println!("{} steps in {WALKED_SECTIONS} sections of seed {SEED} (0: a caller): {:?}", steps.sum(), steps.0);
+    println!("{} traces with {frames} frames in them: {:?}", traces.sum(), traces.0);
+    assert!(steps.sum() >= 200_000 && traces.sum() >= 100_000);
+    let of_sections = [1].into_iter().chain(3..=15);
+    of_sections.clone().chain(21..=28).chain([0, 41]).for_each(|number| steps.assert_at_least(100, number));
+    of_sections.chain(21..=28).chain([30, 31, 41, 42, 43]).for_each(|number| traces.assert_at_least(100, number));
+}
+
 fn number_of(verdict: Verdict) -> u64 {
     match verdict {
         Verdict::Accepted => 0,
@@ -117,23 +184,39 @@ impl Counts {
 }
 
 // The forbidden pages are what makes the comparison one of memory too, so they are tried: another process of this
-// test reads one byte too far, and must be killed for it.
+// test reads or writes one byte or word too far, and must be killed for it.
 #[test]
-fn a_read_outside_is_noticed() {
-    for side in ["front", "end"] {
+fn what_is_done_outside_is_noticed() {
+    for (test, side) in
+        [("reads_outside", "front"), ("reads_outside", "end"), ("writes_outside", "front"), ("writes_outside", "end")]
+    {
         let this = std::env::current_exe().expect("the test's own file");
         let mut child = Command::new(this);
-        child.args(["--exact", "reads_outside", "--ignored"]).env("SIDE_TO_READ_OUTSIDE", side);
+        child.args(["--exact", test, "--ignored"]).env("SIDE_TO_LEAVE", side);
         let ended = child.output().expect("the test can be started again").status;
-        assert!([Some(7), Some(11)].contains(&ended.signal()), "{side}: {ended}, where SIGSEGV or SIGBUS was expected");
+        let killed = [Some(7), Some(11)].contains(&ended.signal());
+        assert!(killed, "{test}, {side}: {ended}, where SIGSEGV or SIGBUS was expected");
     }
 }
 
 #[test]
-#[ignore = "ends its process; started by a_read_outside_is_noticed"]
+#[ignore = "ends its process; started by what_is_done_outside_is_noticed"]
+fn writes_outside() {
+    let mut room = Guarded::with_room(24);
+    let outside = match std::env::var("SIDE_TO_LEAVE").as_deref() {
+        Ok("front") => room.words_at_front(&[1, 2, 3]).as_mut_ptr().wrapping_sub(1),
+        Ok("end") => room.words_at_end(&[1, 2, 3]).as_mut_ptr().wrapping_add(3),
+        _ => return,
+    };
+    // SAFETY: none: the address is forbidden, and this process ends here.
+    unsafe { outside.write_volatile(4) };
+}
+
+#[test]
+#[ignore = "ends its process; started by what_is_done_outside_is_noticed"]
 fn reads_outside() {
     let mut room = Guarded::with_room(3);
-    let outside = match std::env::var("SIDE_TO_READ_OUTSIDE").as_deref() {
+    let outside = match std::env::var("SIDE_TO_LEAVE").as_deref() {
         Ok("front") => room.at_front(&[1, 2, 3]).as_ptr().wrapping_sub(1),
         Ok("end") => room.at_end(&[1, 2, 3]).as_ptr().wrapping_add(3),
         _ => return,

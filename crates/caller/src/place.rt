@@ -18,7 +18,8 @@ pub enum Spot {
 
 // RA and FP of the caller, or which of the two words is outside the stack window.
 pub enum Values {
-    Both { ra: u64, fp: u64 },
+    // RA, then FP.
+    Both(u64, u64),
     NoRa,
     NoFp,
 }
@@ -81,8 +82,5 @@ pub fn values_at(
     let Word::Is(second) = value_at(stack, lies, order, registers.fp, fp) else {
         return Values::NoFp;
     };
-    Values::Both {
-        ra: first,
-        fp: second,
-    }
+    Values::Both(first, second)
 }

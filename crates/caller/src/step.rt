@@ -54,7 +54,7 @@ impl Registers {
                 old: self,
                 number: 28,
             },
-            Values::Both { ra, fp } => Step::Caller(Registers {
+            Values::Both(ra, fp) => Step::Caller(Registers {
                 pc: ra,
                 sp: caller_sp(cfa),
                 fp: fp,

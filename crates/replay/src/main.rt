@@ -1,10 +1,13 @@
-// Checks every stored section and prints its verdict, then looks up every stored question on it and prints the answer. `stdout`
-// holds what the independent reader said.
+// Checks every stored section and prints its verdict, then looks up every stored question on it and makes every stored walk, and
+// prints each answer. `stdout` holds what the independent reader said.
 //
-// The file data/cases holds the cases one after the other. A case is a head of 57 bytes (its name in 38, a space, the section's
-// length in 8 decimal digits, a space, the number of questions in 8, a line's end), the section's bytes, and 16 bytes for each
-// question: the section's address and the PC, 8 bytes each, little-endian.
+// The file data/cases holds the cases one after the other. A case is a head of 66 bytes (its name in 38, then behind a space each,
+// in 8 decimal digits, the section's length, the number of questions and how many bytes its walks have, and a line's end), the
+// section's bytes, 16 bytes for each question (the section's address and the PC, 8 bytes each, little-endian), and the walks
+// (`walks`).
 mod show;
+mod show_walks;
+mod walks;
 
 ghost use Prim.Native.Nat.{_+_, _<_, _≤_};
 ghost use lib.ListN.{length};
@@ -13,13 +16,14 @@ use crate::show::say;
 use crate::show::show_answer;
 use crate::show::show_question;
 use crate::show::show_verdict;
+use crate::walks::make_walks;
 use accept::section_check::check;
 use lookup::look::lookup;
 use numbers::field::Order;
 use numbers::field::u64_at;
 
 // More than the cases have, so that a file that fills it shows as cut.
-const ROOM: usize = 1_000_000;
+const ROOM: usize = 2_000_000;
 
 // The digit that a byte of text stands for.
 fn digit(text: u8) -> usize
@@ -54,7 +58,7 @@ fn eight_at(head: &[u8], at: usize) -> usize
 fn length_in(head: &[u8]) -> usize
     ensures { λ r. ⌜ r < 100000000 ⌝ }
 {
-    if head.len() < 57 {
+    if head.len() < 66 {
         return 0;
     }
     eight_at(head, 39)
@@ -64,10 +68,20 @@ fn length_in(head: &[u8]) -> usize
 fn asked_in(head: &[u8]) -> usize
     ensures { λ r. ⌜ r < 1600000000 ⌝ }
 {
-    if head.len() < 57 {
+    if head.len() < 66 {
         return 0;
     }
     16 * eight_at(head, 48)
+}
+
+// How many bytes its walks have.
+fn walked_in(head: &[u8]) -> usize
+    ensures { λ r. ⌜ r < 100000000 ⌝ }
+{
+    if head.len() < 66 {
+        return 0;
+    }
+    eight_at(head, 57)
 }
 
 fn show_name(head: &[u8]) {
@@ -92,21 +106,33 @@ fn ask(section: &[u8], questions: &[u8]) {
     }
 }
 
+// Everything that is asked of one section.
+fn run(section: &[u8], questions: &[u8], walks: &[u8]) {
+    show_verdict(check(section));
+    ask(section, questions);
+    make_walks(section, walks);
+}
+
 fn replay(cases: &[u8]) {
     let mut at = 0;
-    while 57 <= cases.len() - at {
-        let start = at + 57;
+    while 66 <= cases.len() - at {
+        let start = at + 66;
         let length = length_in(&cases[at..start]);
         let asked = asked_in(&cases[at..start]);
-        if cases.len() - start < length + asked {
+        let walked = walked_in(&cases[at..start]);
+        if cases.len() - start < length + asked + walked {
             show_cut();
             return;
         }
-        let middle = start + length;
-        let end = middle + asked;
+        let first = start + length;
+        let second = first + asked;
+        let end = second + walked;
         show_name(&cases[at..start]);
-        show_verdict(check(&cases[start..middle]));
-        ask(&cases[start..middle], &cases[middle..end]);
+        run(
+            &cases[start..first],
+            &cases[first..second],
+            &cases[second..end],
+        );
         at = end;
     }
 }

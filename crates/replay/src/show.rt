@@ -14,7 +14,7 @@ pub fn say(text: &[u8]) {
     io::write_all(STDOUT_FILENO, text);
 }
 
-fn say_number(n: u64) {
+pub fn say_number(n: u64) {
     io::print_decimal(STDOUT_FILENO, n);
 }
 

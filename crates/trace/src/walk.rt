@@ -76,7 +76,7 @@ fn walk(
 {
     let mut current = registers;
     let mut frames = 0;
-    let mut left = limit;
+    let mut left: u64 = limit;
     while 0 < left {
         let step = current.step_checked(section, layout, stack, lies);
         let Step::Caller(caller) = step else {

@@ -6,6 +6,7 @@
 use std::fs;
 use std::process::ExitCode;
 use suntimpani_tests::cases::{self, Case, Question};
+use suntimpani_tests::walk::Walk;
 use suntimpani_tests::{in_repository, pack, reader};
 
 const PACK: &str = "crates/replay/data/cases";
@@ -33,23 +34,25 @@ fn main() -> ExitCode {
 struct Made {
     cases: usize,
     questions: usize,
+    walks: usize,
     pack: Vec<u8>,
     expected: String,
 }
 
 impl Made {
     fn counts(&self) -> String {
-        format!("{} cases with {} questions", self.cases, self.questions)
+        format!("{} cases with {} questions and {} walks", self.cases, self.questions, self.walks)
     }
 }
 
 fn made() -> Made {
-    let mut made = Made { cases: 0, questions: 0, pack: Vec::new(), expected: String::new() };
+    let mut made = Made { cases: 0, questions: 0, walks: 0, pack: Vec::new(), expected: String::new() };
     for case in cases::all() {
         made.pack.extend(packed(&case));
         made.expected += &expected(&case);
         made.cases += 1;
         made.questions += case.questions.len();
+        made.walks += case.walks.len();
     }
     let (stored, text) = (made.pack.len(), made.expected.len());
     assert!(stored < pack::LIMIT, "the pack has {stored} bytes, too many");
@@ -59,8 +62,9 @@ fn made() -> Made {
 
 fn packed(case: &Case) -> Vec<u8> {
     let questions: Vec<(u64, u64)> = case.questions.iter().map(|asked| (asked.address, asked.pc)).collect();
+    let walks: Vec<&Walk> = case.walks.iter().map(|(walk, _)| walk).collect();
     let mut one = Vec::new();
-    pack::put_case(&mut one, &case.name, &case.section, &questions);
+    pack::put_case(&mut one, &case.name, &case.section, &questions, &walks);
     one
 }
 
@@ -74,6 +78,11 @@ fn expected(case: &Case) -> String {
         let answer = reader::lookup(&case.section, address, pc);
         assert_eq!(answer, expected, "{name} at {address:x}, PC {pc:x}: the reader and the author disagree");
         text += &pack::answer_line(address, pc, &answer);
+    }
+    for (walk, expected) in &case.walks {
+        let walked = walk.by_reader(&case.section);
+        assert_eq!(walked, *expected, "{name}, {walk:x?}: the reader and the author disagree");
+        text += &pack::walk_lines(walk, &walked);
     }
     text
 }

@@ -1,5 +1,6 @@
-//! Sections written by public assemblers: their verdicts, and lookups at the edges of some of their functions.
+//! Sections written by public assemblers: their verdicts, lookups at the edges of some of their functions, and walks.
 
+use super::corpus_walks;
 use super::questions::{defined, edges, Question};
 use super::{refused, Case, ACCEPTED};
 use crate::in_repository;
@@ -44,7 +45,7 @@ pub fn all() -> Vec<Case> {
     for (name, verdict) in CORPUS_VERDICTS {
         let section = corpus_section(name);
         let questions = if verdict == ACCEPTED { of_some_functions(&section) } else { Vec::new() };
-        cases.push(Case::new(name, section, verdict).asked(questions));
+        cases.push(Case::new(name, section, verdict).asked(questions).walked(corpus_walks::of(name)));
     }
     cases
 }

@@ -4,7 +4,7 @@
 //! that is answered with.
 #![forbid(unsafe_code)]
 
-use super::{accept, Base, Entry, Parts, Place, Refusal, Row};
+use super::{accept, Base, Entry, Order, Parts, Place, Refusal, Row};
 use std::fmt;
 
 /// What a lookup comes to.
@@ -103,6 +103,10 @@ struct Last {
 impl<'a> Checked<'a> {
     pub fn open(section: &'a [u8]) -> Result<Checked<'a>, Refusal> {
         accept(section).map(Checked)
+    }
+
+    pub(super) fn order(&self) -> Order {
+        self.0.order
     }
 
     /// The row for a PC where the section is loaded at an address.

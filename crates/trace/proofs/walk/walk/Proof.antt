@@ -29,6 +29,9 @@ loop-holds c = going-begins
 step-checked-requires : tie.Need-step-checked-requires Inv-loop μ-loop
 step-checked-requires c κs = c .before .before .before .before .before .pre .0
 
+more : (c : tie.In-loop Inv-loop μ-loop) → 0 < c .before .loop .left
+more c = omega (arith, c .loop-test .taken)
+
 -- ---- the step is refused
 
 same-length : tie.Need-same-length Inv-loop μ-loop
@@ -39,7 +42,7 @@ unfolding checkedWalk
 returns c =
     let turn = c .before .before .before in
     ap (λ n. tracedAs (record { ending = Refused n; frames = turn .before .loop .frames }) (turn .before .loop .buffer)) (c .number-of .ensures)
-    ∙ going-refused (turn .before .loop .inv) (turn .loop-test .taken) _ (sym (c .before .before .step-checked .ensures))
+    ∙ going-refused (turn .before .loop .inv) (more turn) _ (sym (c .before .before .step-checked .ensures))
     (λ caller e. miss (1 ∷ 2 ∷ []) 0 tt (rw e at (c .before .match .keys2)))
 
 -- ---- the step yields a frame
@@ -49,10 +52,10 @@ abbrev turn-of : tie.After-known-told Inv-loop μ-loop → tie.In-loop Inv-loop 
 turn-of c = c .before .before .before .before
 
 room : (c : tie.In-loop Inv-loop μ-loop) → 3 * c .before .loop .frames + 3 ≤ length (c .before .loop .buffer)
-room c = going-fits (c .before .loop .inv) (c .loop-test .taken) (c .before .before .before .before .before .pre .2)
+room c = going-fits (c .before .loop .inv) (more c) (c .before .before .before .before .before .pre .2)
 
 few : (c : tie.In-loop Inv-loop μ-loop) → c .before .loop .frames < 256
-few c = omega (arith, c .before .loop .inv .counted, c .loop-test .taken, c .before .before .before .before .before .pre .1)
+few c = omega (arith, c .before .loop .inv .counted, more c, c .before .before .before .before .before .pre .1)
 
 mul-write-frame : tie.Need-mul-write-frame Inv-loop μ-loop
 mul-write-frame c = record { fits = omega (arith, few (turn-of (c .before))) }
@@ -80,7 +83,7 @@ same-length-2 c =
     let turn = turn-of told in
     let yields = sym (told .before .before .before .step-checked .ensures) ∙ told .before .step .given .1 in
     ap length (written-is written)
-    ∙ going-same (turn .before .loop .inv) (turn .loop-test .taken) (turn .before .before .before .before .before .pre .2) yields
+    ∙ going-same (turn .before .loop .inv) (more turn) (turn .before .before .before .before .before .pre .2) yields
 
 returns-2 : tie.Need-returns-2 Inv-loop μ-loop
 unfolding checkedWalk
@@ -90,13 +93,13 @@ returns-2 c =
     let turn = turn-of told in
     let yields = sym (told .before .before .before .step-checked .ensures) ∙ told .before .step .given .1 in
     ap (tracedAs (record { ending = Outermost; frames = turn .before .loop .frames + 1 })) (written-is written)
-    ∙ going-outermost (turn .before .loop .inv) (turn .loop-test .taken) (turn .before .before .before .before .before .pre .2) yields (c .if1 .taken)
+    ∙ going-outermost (turn .before .loop .inv) (more turn) (turn .before .before .before .before .before .pre .2) yields (c .if1 .taken)
 
 sub-left : tie.Need-sub-left Inv-loop μ-loop
-sub-left c = turn-of (c .before .before .before .before .before .before .before) .loop-test .taken
+sub-left c = more (turn-of (c .before .before .before .before .before .before .before))
 
 loop-less : tie.Need-loop-less Inv-loop μ-loop
-loop-less c = omega (arith, turn-of (c .before .before .before .before .before .before .before) .loop-test .taken)
+loop-less c = omega (arith, more (turn-of (c .before .before .before .before .before .before .before)))
 
 loop-again : tie.Need-loop-again Inv-loop μ-loop
 loop-again c =
@@ -105,7 +108,7 @@ loop-again c =
     let turn = turn-of told in
     let yields = sym (told .before .before .before .step-checked .ensures) ∙ told .before .step .given .1 in
     rw (written-is written)
-    (going-on (turn .before .loop .inv) (turn .loop-test .taken) (turn .before .before .before .before .before .pre .2) yields (c .if1 .left))
+    (going-on (turn .before .loop .inv) (more turn) (turn .before .before .before .before .before .pre .2) yields (c .if1 .left))
 
 -- ---- the limit is full
 

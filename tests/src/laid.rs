@@ -1,0 +1,86 @@
+//! Lays a stack for a long walk through a section: frames spread over its functions, as a compiled program leaves them.
+#![forbid(unsafe_code)]
+
+use crate::reader::{functions, Base, Header, Order, Place, Registers, Row, Where};
+use crate::stream::Random;
+use crate::walk::Walk;
+use crate::ADDRESS;
+
+/// Where the stack begins.
+const BEGIN: u64 = 0x7fff_0000_0000;
+
+/// A walk of so many frames to an outermost one, from function to function by a seed.
+///
+/// # Panics
+/// Where the section is refused, or has no row from SP that saves its words in a frame of its own.
+pub fn through(section: &[u8], frames: usize, seed: u64) -> Walk {
+    let places = usable(section);
+    let mut random = Random::new(seed);
+    let mut chain = Vec::from_iter((0..frames).map(|_| places[random.below(places.len() as u64) as usize]));
+    // Behind the last frame's function nothing is called: RA 0.
+    chain.push((0, chain[0].1));
+    let mut words = Vec::new();
+    for calls in chain.windows(2) {
+        let [(_, row), (ra, _)] = calls else { unreachable!("windows of two") };
+        words.extend(frame(row, *ra, BEGIN + 8 * words.len() as u64));
+    }
+    let big = Header::read(section).is_some_and(|header| header.order == Order::Big);
+    let stack = words.iter().flat_map(|word: &u64| if big { word.to_be_bytes() } else { word.to_le_bytes() }).collect();
+    let registers = Registers { pc: chain[0].0, sp: BEGIN, fp: BEGIN, lr: 0, first: 1 };
+    let lies = Where { section: ADDRESS, stack: BEGIN };
+    Walk { lies, registers, stack, limit: frames as u64, words: 3 * frames }
+}
+
+// The PCs at which rows begin that can be laid out, with the row of each.
+fn usable(section: &[u8]) -> Vec<(u64, Row)> {
+    let mut places = Vec::new();
+    for function in functions(section) {
+        let inside = function.rows.iter().filter(|row| row.start < function.size && fits(row));
+        places.extend(inside.map(|row| (ADDRESS.wrapping_add_signed(function.start) + u64::from(row.start), *row)));
+    }
+    places
+}
+
+// From SP, not signed, a frame of 8 to 512 bytes, and its words saved in it.
+fn fits(row: &Row) -> bool {
+    let frame = row.cfa_offset;
+    let in_frame =
+        |place| matches!(place, Place::AtOffset(offset) if -frame <= offset && offset <= -8 && offset % 8 == 0);
+    let whole = (8..=512).contains(&frame) && frame % 8 == 0;
+    row.base == Base::Sp && !row.signed && whole && in_frame(row.ra) && (row.fp == Place::Register || in_frame(row.fp))
+}
+
+// The words of one frame: RA and FP at their places, and elsewhere 0.
+fn frame(row: &Row, ra: u64, sp: u64) -> Vec<u64> {
+    let mut words = vec![0; row.cfa_offset as usize / 8];
+    let place = |offset: i64| ((row.cfa_offset + offset) / 8) as usize;
+    if let Place::AtOffset(offset) = row.fp {
+        words[place(offset)] = sp;
+    }
+    if let Place::AtOffset(offset) = row.ra {
+        words[place(offset)] = ra;
+    }
+    words
+}
+
+#[cfg(test)]
+mod tests {
+    use super::*;
+    use crate::cases::corpus_section;
+    use crate::obvious::Meaning;
+    use crate::reader::{Ending, Traced};
+
+    #[test]
+    fn a_laid_walk_is_as_long_as_asked() {
+        let section = corpus_section("gas_exe");
+        let walk = through(&section, 64, 1);
+        let walked = walk.by_definition(&Meaning::read(&section));
+        assert_eq!(walked.traced, Traced { frames: 64, ending: Ending::Outermost });
+        assert_eq!(walk.by_reader(&section), walked);
+        // Hardly a frame has the function of another.
+        let mut callers: Vec<u64> = walked.frames().iter().map(|[_, ra, _]| *ra).collect();
+        callers.sort();
+        callers.dedup();
+        assert!(callers.len() > 60, "{} callers", callers.len());
+    }
+}

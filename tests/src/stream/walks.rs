@@ -1,0 +1,202 @@
+//! Walks to be made in a section of the stream: stacks full of PCs, of stack addresses and of 0, so that many of them
+//! go several frames deep; registers, windows, limits and buffers at their edges.
+#![forbid(unsafe_code)]
+
+use super::{damaged, sound, Random};
+use crate::maker::{Machine, Row, Section, SORTED};
+use crate::reader::{functions, Base, Checked, Function, Outcome, Place, Registers, Where};
+use crate::walk::Walk;
+use crate::ADDRESS;
+
+/// A section that can be walked in, most of the time: its rows lead a little way up the stack. One in four is damaged.
+pub fn walkable(random: &mut Random) -> Vec<u8> {
+    let mut section = sound(random);
+    // Most without a row to be found, and most with functions that overlap, are passed over.
+    while (!has_a_row(&section) || section.flags & SORTED == 0) && !random.once_in(4) {
+        section = sound(random);
+    }
+    let machine = machine_of(&section);
+    for function in &mut section.functions {
+        for row in &mut function.rows {
+            if !random.once_in(8) {
+                *row = short_row(random, machine, row.start);
+            }
+        }
+    }
+    match random.below(32) {
+        kind @ 0..=7 => damaged(random, section, kind),
+        _ => section.bytes(),
+    }
+}
+
+fn has_a_row(section: &Section) -> bool {
+    section.functions.iter().any(|function| function.rows.iter().any(|row| row.start < function.size))
+}
+
+fn machine_of(section: &Section) -> Machine {
+    match section.abi {
+        1 => Machine::Aarch64Big,
+        2 => Machine::Aarch64,
+        _ => Machine::Amd64,
+    }
+}
+
+// Frames of 0 to 48 bytes, the words in them saved near CFA, and seldom from FP.
+fn short_row(random: &mut Random, machine: Machine, start: u32) -> Row {
+    let saved = [-8, -16, -8, -16, -8, -16, -8, -16, -24, -24, 0, 8, -1];
+    let cfa = random.pick(&[8, 8, 8, 8, 16, 16, 16, 16, 16, 24, 32, 32, 48, 48, 0, -8, 1]);
+    let offsets = [cfa, random.pick(&saved), random.pick(&saved)];
+    let count = match machine {
+        Machine::Amd64 => 1 + random.index(2),
+        _ => random.pick(&[1, 2, 2, 3, 3]),
+    };
+    let mut row = Row::new(start, random.below(3) as u8, &offsets[..count]);
+    row.sp_base = !random.once_in(4);
+    row.signed = random.once_in(16);
+    row
+}
+
+/// Walks in a section: several where it is accepted, and two where it is refused, since they come to little else.
+pub fn walks(random: &mut Random, section: &[u8]) -> Vec<Walk> {
+    let big = section.first() == Some(&0xde);
+    let Ok(checked) = Checked::open(section) else {
+        return (0..2).map(|_| walk(random, &[], big)).collect();
+    };
+    let functions = functions(section);
+    let one = |random: &mut Random| {
+        let mut walk = walk(random, &functions, big);
+        if random.once_in(2) {
+            lay_frames(random, &checked, &functions, big, &mut walk);
+        }
+        walk
+    };
+    (0..8).map(|_| one(random)).collect()
+}
+
+// Frames that lead from one function to the next, as far as the window goes or something else ends them.
+fn lay_frames(random: &mut Random, checked: &Checked, functions: &[Function], big: bool, walk: &mut Walk) {
+    let (mut sp, mut fp, mut pc) = (walk.registers.sp, walk.registers.fp, walk.registers.pc);
+    for _ in 0..random.below(24) {
+        let Outcome::Found { row, .. } = checked.find(walk.lies.section, pc).outcome else { return };
+        let base = if row.base == Base::Sp { sp } else { fp };
+        sp = base.wrapping_add_signed(row.cfa_offset);
+        pc = match row.ra {
+            Place::Register => walk.registers.lr,
+            Place::AtOffset(offset) => {
+                let next = if random.once_in(16) { 0 } else { self::pc(random, functions, walk.lies.section) };
+                put(walk, big, sp.wrapping_add_signed(offset), next)
+            }
+        };
+        if let Place::AtOffset(offset) = row.fp {
+            let next = sp.wrapping_add(8 * random.below(4));
+            fp = put(walk, big, sp.wrapping_add_signed(offset), next);
+        }
+    }
+}
+
+// Writes a word where it lies wholly inside the window.
+fn put(walk: &mut Walk, big: bool, address: u64, word: u64) -> u64 {
+    let place = address.wrapping_sub(walk.lies.stack);
+    let bytes = if big { word.to_be_bytes() } else { word.to_le_bytes() };
+    let inside = usize::try_from(place).ok().and_then(|place| walk.stack.get_mut(place..)?.first_chunk_mut());
+    if let Some(chunk) = inside {
+        *chunk = bytes;
+    }
+    word
+}
+
+fn walk(random: &mut Random, functions: &[Function], big: bool) -> Walk {
+    let (address, length) = window(random);
+    let section = if random.once_in(16) { random.pick(&[0, 0x1000, u64::MAX - 0xffff]) } else { ADDRESS };
+    let near = |random: &mut Random| near_stack(random, address, length);
+    let registers = Registers {
+        pc: pc(random, functions, section),
+        sp: near(random),
+        fp: near(random),
+        lr: if random.once_in(2) { pc(random, functions, section) } else { random.pick(&[0, 1, u64::MAX]) },
+        first: random.pick(&[0, 0, 1, 1, 2, u64::MAX]),
+    };
+    let mut stack = Vec::new();
+    while stack.len() < length {
+        let word = word(random, functions, section, address, length);
+        stack.extend(if big { word.to_be_bytes() } else { word.to_le_bytes() });
+    }
+    stack.truncate(length);
+    let (limit, words) = room(random);
+    Walk { lies: Where { section, stack: address }, registers, stack, limit, words }
+}
+
+// Mostly in the middle of the addresses; at an end of them the window may be too long.
+fn window(random: &mut Random) -> (u64, usize) {
+    let length = match random.below(4) {
+        0 if random.once_in(2) => random.index(33),
+        1 => 8 * random.index(80),
+        _ => 8 * (8 + random.index(40)),
+    };
+    let address = match random.below(12) {
+        0 => random.pick(&[0, 0, 1, 8]),
+        1 => 0_u64.wrapping_sub(length as u64).wrapping_add_signed(random.pick(&[0, 0, 1, -8])),
+        2 => random.number(),
+        _ => 0x7fff_0000,
+    };
+    (address, length)
+}
+
+// At the window's beginning, in it, at its end, at an end of the addresses, or anywhere.
+fn near_stack(random: &mut Random, address: u64, length: usize) -> u64 {
+    match random.below(16) {
+        0 => random.number(),
+        1 => random.pick(&[0, 8, u64::MAX, u64::MAX - 15]),
+        2 => address.wrapping_add(length as u64).wrapping_sub(random.below(24)),
+        3 => address.wrapping_add(8 * random.below(length as u64 / 8 + 1)),
+        4 => address.wrapping_add(random.below(17)).wrapping_sub(8),
+        _ => address.wrapping_add(16),
+    }
+}
+
+// A PC at a row of a function or a little behind it; now and then one of no function, or in one that has no row there.
+fn pc(random: &mut Random, functions: &[Function], section: u64) -> u64 {
+    let has_row = |function: &&Function| function.rows.iter().any(|row| row.start < function.size);
+    let some: Vec<&Function> =
+        if random.once_in(24) { functions.iter().collect() } else { functions.iter().filter(has_row).collect() };
+    if some.is_empty() || random.once_in(40) {
+        return random.pick(&[1, u64::MAX, ADDRESS]).wrapping_add(random.below(3));
+    }
+    let function = random.pick(&some);
+    let inside: Vec<u32> = function.rows.iter().map(|row| row.start).filter(|&start| start < function.size).collect();
+    let start = if inside.is_empty() { 0 } else { random.pick(&inside) };
+    let behind = random.below(2).min(u64::from(function.size.saturating_sub(start + 1)));
+    section.wrapping_add_signed(function.start).wrapping_add(u64::from(start) + behind)
+}
+
+fn word(random: &mut Random, functions: &[Function], section: u64, address: u64, length: usize) -> u64 {
+    match random.below(16) {
+        0 => 0,
+        1 => random.number(),
+        2..=4 => near_stack(random, address, length),
+        _ => pc(random, functions, section),
+    }
+}
+
+// The limit, and words for as many frames, one word fewer, or more; now and then a limit too high.
+fn room(random: &mut Random) -> (u64, usize) {
+    let limit = match random.below(16) {
+        0 => random.pick(&[257, 258, 512, 1 << 32, 1 << 63, u64::MAX]),
+        1 => random.pick(&[254, 255, 256]),
+        2..=4 => 0,
+        5..=9 => 1 + random.below(3),
+        _ => 1 + random.below(20),
+    };
+    let asked = match limit {
+        0 => 192,
+        1..=256 => 3 * limit as usize,
+        _ => random.index(800),
+    };
+    let words = match random.below(12) {
+        0 => asked.saturating_sub(1 + random.index(3)),
+        1 => asked + random.index(5),
+        2 => random.index(asked + 1),
+        _ => asked,
+    };
+    (limit, words)
+}

@@ -1,0 +1,454 @@
+//! Shows that the stored walks can tell a wrong step and a wrong trace: every slip that a reader could make, made here
+//! on purpose, comes to something else in some of them.
+//!
+//! A walk is made by its ways, a function for each thing that can go wrong. The right ways come to what is expected of
+//! every stored walk; a slip is the right ways but for one or two of them. Two slips are not among them, since no
+//! answer can tell them: FP's word asked for before RA's, where both are 28; and 28 before 27 alone, since a row that
+//! leaves RA in LR asks for no word.
+
+use suntimpani_tests::cases;
+use suntimpani_tests::obvious::{self, Meaning};
+use suntimpani_tests::reader::{functions, Base, Ending, Outcome, Place, Registers, Row, Step, Traced, Verdict};
+use suntimpani_tests::walk::{lent, Walk, Walked};
+
+const TWO_64: i128 = 1 << 64;
+
+/// A walk to be made, in a section that means this.
+struct Scene<'a> {
+    walk: &'a Walk,
+    meaning: &'a Meaning,
+    amd64: bool,
+    /// The same bytes as an AArch64 section's, where the section is an AMD64 one: other places, and signed bits.
+    as_aarch64: Option<&'a Meaning>,
+}
+
+/// A row as it was found, and the same bytes as they would be on AArch64.
+struct Found {
+    row: Row,
+    on_aarch64: Row,
+}
+
+#[derive(Clone, Copy)]
+struct Ways {
+    /// In which order the rules stand: before a step, in it, and before a trace. 1 stands for 1 to 15.
+    before_step: &'static [u64],
+    in_step: &'static [u64],
+    before_trace: &'static [u64],
+    past_the_end: fn(u64, usize) -> bool,
+    looked_up: fn(&Registers) -> u64,
+    has_mark: fn(u64) -> bool,
+    is_signed: fn(&Scene, &Found) -> bool,
+    cfa: fn(u64, i64) -> i128,
+    is_outside: fn(i128) -> bool,
+    too_low: fn(i128, u64, bool) -> bool,
+    trusts_lr: fn(bool) -> bool,
+    ra: fn(&Scene, &Found, bool) -> Place,
+    fp: fn(&Scene, &Found) -> Place,
+    /// The place that must be in the window where RA has this one.
+    asked: fn(Place) -> Place,
+    /// What a place counts from, by CFA and SP.
+    counts_from: fn(i128, u64) -> i128,
+    /// The word at an address in a window of so many bytes: where it lies in it, if it does.
+    place: fn(i128, u64, usize) -> Option<i128>,
+    is_big: fn(bool) -> bool,
+    /// The caller as it is handed back, and the old registers with a refusal.
+    handed_back: fn(&Registers, Registers) -> Registers,
+    old: fn(Registers, i128) -> Registers,
+    too_high: fn(u64) -> bool,
+    in_force: fn(u64) -> u64,
+    words_asked: fn(u64) -> u64,
+    first_mark: fn(u64) -> u64,
+    /// Where a step of a trace starts, by the trace's first registers and those of the last frame.
+    starts_at: fn(Registers, Registers) -> Registers,
+    frame: fn(&Registers) -> Vec<u64>,
+    ending: fn(&Registers, bool) -> Option<Ending>,
+    /// What is done to the words behind the frames.
+    left: fn(&mut [u64]),
+    index: fn(u64) -> u64,
+}
+
+const RIGHT: Ways = Ways {
+    before_step: &[41, 1],
+    in_step: &[24, 25, 26, 27, 28],
+    before_trace: &[41, 42, 43, 1],
+    past_the_end: |address, length| i128::from(address) + length as i128 > TWO_64,
+    looked_up: |registers| registers.pc,
+    has_mark: |first| first != 0,
+    is_signed: |_, found| found.row.signed,
+    cfa: |base, offset| i128::from(base) + i128::from(offset),
+    is_outside: |cfa| !(0..TWO_64).contains(&cfa),
+    too_low: |cfa, sp, marked| cfa < sp.into() || cfa == sp.into() && !marked,
+    trusts_lr: |marked| marked,
+    ra: |_, found, _| found.row.ra,
+    fp: |_, found| found.row.fp,
+    asked: |place| place,
+    counts_from: |cfa, _| cfa,
+    place: |at, window, length| wholly_inside(at - i128::from(window), length),
+    is_big: |big| big,
+    handed_back: |_, caller| caller,
+    old: |old, _| old,
+    too_high: |limit| limit > 256,
+    in_force: |limit| if limit == 0 { 64 } else { limit },
+    words_asked: |limit| 3 * if limit == 0 { 64 } else { limit.min(256) },
+    first_mark: |_| 1,
+    starts_at: |_, last| last,
+    frame: |caller| vec![caller.sp, caller.pc, caller.fp],
+    ending: |caller, full| match caller.pc {
+        0 => Some(Ending::Outermost),
+        _ => full.then_some(Ending::Full),
+    },
+    left: |_| (),
+    index: |index| index,
+};
+
+fn wholly_inside(place: i128, length: usize) -> Option<i128> {
+    (0 <= place && place + 8 <= length as i128).then_some(place)
+}
+
+static SLIPS: [(&str, Ways); 86] = [
+    // RA.
+    ("LR is trusted in later frames", Ways { trusts_lr: |_| true, ..RIGHT }),
+    ("LR is not trusted in the first frame", Ways { trusts_lr: |_| false, ..RIGHT }),
+    ("RA is in LR in the first frame, though it was saved", Ways { ra: in_lr_if_first, ..RIGHT }),
+    ("RA is at CFA - 8 on AArch64", Ways { ra: |_, _, _| Place::AtOffset(-8), ..RIGHT }),
+    ("RA is at the second offset on AMD64", Ways { ra: |_, found, _| found.on_aarch64.ra, ..RIGHT }),
+    (
+        "28 comes before 27, a word below CFA being asked for",
+        Ways { asked: below_cfa, in_step: &[24, 25, 26, 28, 27], ..RIGHT },
+    ),
+    // CFA.
+    ("CFA = SP is accepted without the mark", Ways { too_low: |cfa, sp, _| cfa < sp.into(), ..RIGHT }),
+    ("CFA = SP is refused with the mark", Ways { too_low: |cfa, sp, _| cfa <= sp.into(), ..RIGHT }),
+    ("CFA below SP is accepted in the first frame", Ways { too_low: |cfa, sp, m| cfa <= sp.into() && !m, ..RIGHT }),
+    ("CFA below SP is accepted", Ways { too_low: |cfa, sp, m| cfa == sp.into() && !m, ..RIGHT }),
+    (
+        "CFA one above SP is refused",
+        Ways { too_low: |cfa, sp, m| cfa < sp.into() || cfa < i128::from(sp) + 2 && !m, ..RIGHT },
+    ),
+    ("CFA wraps", Ways { cfa: |base, offset| base.wrapping_add_signed(offset).into(), ..RIGHT }),
+    ("CFA is compared with SP as a signed number", Ways { too_low: signed_too_low, ..RIGHT }),
+    ("CFA stays at the ends of the addresses", Ways { cfa: |b, o| (RIGHT.cfa)(b, o).clamp(0, TWO_64 - 1), ..RIGHT }),
+    ("CFA 2^64 - 1 is outside", Ways { is_outside: |cfa| !(0..TWO_64 - 1).contains(&cfa), ..RIGHT }),
+    ("CFA 2^64 is inside", Ways { is_outside: |cfa| !(0..=TWO_64).contains(&cfa), ..RIGHT }),
+    ("CFA 0 is outside", Ways { is_outside: |cfa| !(1..TWO_64).contains(&cfa), ..RIGHT }),
+    // The window.
+    ("a place wraps", Ways { place: |at, w, l| wholly_inside(at.rem_euclid(TWO_64) - i128::from(w), l), ..RIGHT }),
+    (
+        "a place in the window wraps",
+        Ways { place: |at, w, l| wholly_inside((at - i128::from(w)).rem_euclid(TWO_64), l), ..RIGHT },
+    ),
+    (
+        "a word may end one byte past the window",
+        Ways { place: |at, w, l| wholly_inside(at - i128::from(w), l + 1), ..RIGHT },
+    ),
+    (
+        "a word may not end where the window ends",
+        Ways { place: |at, w, l| wholly_inside(at - i128::from(w), l.saturating_sub(1)), ..RIGHT },
+    ),
+    ("a word may begin one byte before the window", Ways { place: one_byte_before, ..RIGHT }),
+    (
+        "a word may not begin where the window begins",
+        Ways { place: |at, w, l| wholly_inside(at - i128::from(w), l).filter(|&p| p > 0), ..RIGHT },
+    ),
+    (
+        "a word that begins in the window is inside",
+        Ways { place: |at, w, l| begins_inside(at - i128::from(w), l), ..RIGHT },
+    ),
+    (
+        "a window that ends at 2^64 has wrapped",
+        Ways { past_the_end: |address, l| address.checked_add(l as u64).is_none(), ..RIGHT },
+    ),
+    (
+        "a window at the last address is past the end",
+        Ways { past_the_end: |a, l| a == u64::MAX || (RIGHT.past_the_end)(a, l), ..RIGHT },
+    ),
+    (
+        "a window may end one byte past 2^64",
+        Ways { past_the_end: |a, l| i128::from(a) + l as i128 > TWO_64 + 1, ..RIGHT },
+    ),
+    ("no window is past the end", Ways { past_the_end: |_, _| false, ..RIGHT }),
+    ("words are little-endian", Ways { is_big: |_| false, ..RIGHT }),
+    ("words are in the other byte order", Ways { is_big: |big| !big, ..RIGHT }),
+    ("places count from SP", Ways { counts_from: |_, sp| sp.into(), ..RIGHT }),
+    // The rules' order, and the row.
+    ("24 is given on AMD64", Ways { is_signed: |_, found| found.on_aarch64.signed, ..RIGHT }),
+    ("24 is not given", Ways { is_signed: |_, _| false, ..RIGHT }),
+    ("24 comes after 25", Ways { in_step: &[25, 24, 26, 27, 28], ..RIGHT }),
+    ("24 comes after 26", Ways { in_step: &[25, 26, 24, 27, 28], ..RIGHT }),
+    ("24 comes after 27", Ways { in_step: &[25, 26, 27, 24, 28], ..RIGHT }),
+    ("24 comes after 28", Ways { in_step: &[25, 26, 27, 28, 24], ..RIGHT }),
+    ("26 comes before 25", Ways { in_step: &[24, 26, 25, 27, 28], ..RIGHT }),
+    ("27 comes before 26", Ways { in_step: &[24, 25, 27, 26, 28], ..RIGHT }),
+    ("27 comes before 25", Ways { in_step: &[24, 27, 25, 26, 28], ..RIGHT }),
+    ("28 comes before 26", Ways { in_step: &[24, 25, 28, 26, 27], ..RIGHT }),
+    ("the section comes before 41 in a step", Ways { before_step: &[1, 41], ..RIGHT }),
+    ("PC - 1 is looked up", Ways { looked_up: |registers| registers.pc.wrapping_sub(1), ..RIGHT }),
+    (
+        "PC - 1 is looked up in later frames",
+        Ways { looked_up: |r| r.pc.wrapping_sub(u64::from(r.first == 0)), ..RIGHT },
+    ),
+    // FP.
+    ("FP is never read", Ways { fp: |_, _| Place::Register, ..RIGHT }),
+    ("FP is at the third offset on AMD64", Ways { fp: |_, found| found.on_aarch64.fp, ..RIGHT }),
+    ("FP is at the second of two offsets on AArch64", Ways { fp: second_of_two, ..RIGHT }),
+    (
+        "an FP that is not saved is 0",
+        Ways { handed_back: |old, c| Registers { fp: if c.fp == old.fp { 0 } else { c.fp }, ..c }, ..RIGHT },
+    ),
+    // What is handed back.
+    ("LR becomes RA", Ways { handed_back: |_, c| Registers { lr: c.pc, ..c }, ..RIGHT }),
+    ("LR becomes 0", Ways { handed_back: |_, c| Registers { lr: 0, ..c }, ..RIGHT }),
+    ("the mark is kept", Ways { handed_back: |old, c| Registers { first: old.first, ..c }, ..RIGHT }),
+    ("SP is kept", Ways { handed_back: |old, c| Registers { sp: old.sp, ..c }, ..RIGHT }),
+    ("only 1 is the mark", Ways { has_mark: |first| first == 1, ..RIGHT }),
+    ("the mark is its lowest bit", Ways { has_mark: |first| first & 1 != 0, ..RIGHT }),
+    ("the mark has 32 bits", Ways { has_mark: |first| first as u32 != 0, ..RIGHT }),
+    ("a refusal hands the new SP back", Ways { old: |old, cfa| Registers { sp: cfa as u64, ..old }, ..RIGHT }),
+    ("a refusal hands a mark of 1 back", Ways { old: |old, _| Registers { first: old.first.min(1), ..old }, ..RIGHT }),
+    ("a refusal hands no mark back", Ways { old: |old, _| Registers { first: 0, ..old }, ..RIGHT }),
+    ("a refused section's index is not told", Ways { index: |_| 0, ..RIGHT }),
+    // Before a trace.
+    ("43 counts the limit as given", Ways { words_asked: |limit| limit.wrapping_mul(3), ..RIGHT }),
+    ("43 asks a word a frame", Ways { words_asked: |limit| (RIGHT.words_asked)(limit) / 3, ..RIGHT }),
+    ("43 asks a word fewer", Ways { words_asked: |limit| (RIGHT.words_asked)(limit) - 1, ..RIGHT }),
+    ("limit 256 is refused", Ways { too_high: |limit| limit > 255, ..RIGHT }),
+    ("limit 257 is not refused", Ways { too_high: |limit| limit > 257, ..RIGHT }),
+    ("a limit has 32 bits", Ways { too_high: |limit| limit as u32 > 256, ..RIGHT }),
+    ("42 comes after 43", Ways { before_trace: &[41, 43, 42, 1], ..RIGHT }),
+    ("41 comes after 42 and 43", Ways { before_trace: &[42, 43, 41, 1], ..RIGHT }),
+    ("the section comes before 43", Ways { before_trace: &[41, 42, 1, 43], ..RIGHT }),
+    ("the section comes before 41, 42 and 43", Ways { before_trace: &[1, 41, 42, 43], ..RIGHT }),
+    // A trace.
+    ("limit 0 means 256", Ways { in_force: |limit| if limit == 0 { 256 } else { limit }, ..RIGHT }),
+    ("a trace starts with the mark handed in", Ways { first_mark: |first| first, ..RIGHT }),
+    ("a trace starts without the mark", Ways { first_mark: |_| 0, ..RIGHT }),
+    ("the first frame is repeated", Ways { starts_at: |first, _| first, ..RIGHT }),
+    ("every frame of a trace has the mark", Ways { starts_at: |_, last| Registers { first: 1, ..last }, ..RIGHT }),
+    (
+        "31 comes before 30",
+        Ways { ending: |c, full| full.then_some(Ending::Full).or((RIGHT.ending)(c, full)), ..RIGHT },
+    ),
+    ("RA 0 does not end a trace", Ways { ending: |_, full| full.then_some(Ending::Full), ..RIGHT }),
+    (
+        "FP 0 ends a trace",
+        Ways { ending: |c, full| (RIGHT.ending)(&Registers { pc: c.pc & c.fp, ..*c }, full), ..RIGHT },
+    ),
+    ("a full limit ends a trace one frame late", Ways { in_force: |limit| (RIGHT.in_force)(limit) + 1, ..RIGHT }),
+    (
+        "a full limit ends a trace one frame early",
+        Ways { in_force: |limit| (RIGHT.in_force)(limit).max(2) - 1, ..RIGHT },
+    ),
+    ("a frame has no FP", Ways { frame: |c| vec![c.sp, c.pc], ..RIGHT }),
+    ("FP comes before RA in a frame", Ways { frame: |c| vec![c.sp, c.fp, c.pc], ..RIGHT }),
+    ("RA comes before CFA in a frame", Ways { frame: |c| vec![c.pc, c.sp, c.fp], ..RIGHT }),
+    ("a frame holds LR", Ways { frame: |c| vec![c.sp, c.pc, c.lr], ..RIGHT }),
+    (
+        "a 0 is written behind the frames",
+        Ways { left: |behind| behind.iter_mut().take(1).for_each(|word| *word = 0), ..RIGHT },
+    ),
+    ("the words behind the frames are cleared", Ways { left: |behind| behind.fill(0), ..RIGHT }),
+    (
+        "the last word is written",
+        Ways { left: |behind| behind.iter_mut().rev().take(1).for_each(|word| *word = 0), ..RIGHT },
+    ),
+];
+
+fn in_lr_if_first(scene: &Scene, found: &Found, marked: bool) -> Place {
+    if marked && !scene.amd64 {
+        Place::Register
+    } else {
+        found.row.ra
+    }
+}
+
+// LR is what the answer has, but the word below CFA must be there.
+fn below_cfa(place: Place) -> Place {
+    match place {
+        Place::Register => Place::AtOffset(-8),
+        saved => saved,
+    }
+}
+
+fn signed_too_low(cfa: i128, sp: u64, marked: bool) -> bool {
+    let (cfa, sp) = (cfa as u64 as i64, sp as i64);
+    cfa < sp || cfa == sp && !marked
+}
+
+fn one_byte_before(at: i128, window: u64, length: usize) -> Option<i128> {
+    let place = at - i128::from(window);
+    if place == -1 {
+        Some(-1)
+    } else {
+        wholly_inside(place, length)
+    }
+}
+
+fn begins_inside(place: i128, length: usize) -> Option<i128> {
+    (0 <= place && place < length as i128).then_some(place)
+}
+
+fn second_of_two(scene: &Scene, found: &Found) -> Place {
+    if scene.amd64 || found.row.fp != Place::Register {
+        found.row.fp
+    } else {
+        found.row.ra
+    }
+}
+
+impl Ways {
+    fn walked(&self, scene: &Scene) -> Walked {
+        let mut words = lent(scene.walk.words);
+        let step = self.step(scene);
+        let traced = self.trace(scene, &mut words);
+        Walked { step, traced, words }
+    }
+
+    fn step(&self, scene: &Scene) -> Step {
+        let old = scene.walk.registers;
+        for rule in self.before_step {
+            match (rule, scene.meaning.verdict) {
+                (41, _) if self.is_past_the_end(scene) => return Step::Refused { old: (self.old)(old, 0), number: 41 },
+                (1, Verdict::Refused { number, index }) => {
+                    return Step::Unsound { old: (self.old)(old, 0), number, index: (self.index)(index) }
+                }
+                _ => {}
+            }
+        }
+        match self.caller(scene, old) {
+            Ok(caller) => Step::Caller(caller),
+            Err((number, cfa)) => Step::Refused { old: (self.old)(old, cfa), number },
+        }
+    }
+
+    fn is_past_the_end(&self, scene: &Scene) -> bool {
+        (self.past_the_end)(scene.walk.lies.stack, scene.walk.stack.len())
+    }
+
+    // The caller, or a refusal's number and CFA as far as it was worked out.
+    fn caller(&self, scene: &Scene, old: Registers) -> Result<Registers, (u64, i128)> {
+        let found = scene.find((self.looked_up)(&old)).map_err(|number| (number, 0))?;
+        let marked = (self.has_mark)(old.first);
+        let base = if found.row.base == Base::Sp { old.sp } else { old.fp };
+        let cfa = (self.cfa)(base, found.row.cfa_offset);
+        let ra_place = (self.ra)(scene, &found, marked);
+        let saved = |place, register| self.saved(scene, place, (self.counts_from)(cfa, old.sp), register);
+        let (ra, fp) = (saved(ra_place, old.lr), saved((self.fp)(scene, &found), old.fp));
+        let broken = |rule: &&u64| match rule {
+            24 => (self.is_signed)(scene, &found),
+            25 => (self.is_outside)(cfa),
+            26 => (self.too_low)(cfa, old.sp, marked),
+            27 => found.row.ra == Place::Register && !(self.trusts_lr)(marked),
+            _ => saved((self.asked)(ra_place), old.lr).is_none() || ra.is_none() || fp.is_none(),
+        };
+        match (self.in_step.iter().find(broken), ra, fp) {
+            (None, Some(pc), Some(fp)) => {
+                Ok((self.handed_back)(&old, Registers { pc, sp: cfa as u64, fp, lr: old.lr, first: 0 }))
+            }
+            (number, _, _) => Err((number.copied().unwrap_or(28), cfa)),
+        }
+    }
+
+    fn saved(&self, scene: &Scene, place: Place, counts_from: i128, register: u64) -> Option<u64> {
+        let Place::AtOffset(offset) = place else { return Some(register) };
+        let (lies, stack) = (scene.walk.lies.stack, &scene.walk.stack);
+        let place = (self.place)(counts_from + i128::from(offset), lies, stack.len())?;
+        // What is not in the window is read as 0.
+        let byte = |number: i128| usize::try_from(place + number).ok().and_then(|at| stack.get(at)).unwrap_or(&0);
+        let bytes = [0, 1, 2, 3, 4, 5, 6, 7].map(|number| *byte(number));
+        Some(if (self.is_big)(scene.meaning.big) { u64::from_be_bytes(bytes) } else { u64::from_le_bytes(bytes) })
+    }
+
+    fn trace(&self, scene: &Scene, words: &mut [u64]) -> Traced {
+        let limit = scene.walk.limit;
+        let nothing = |ending| Traced { frames: 0, ending };
+        for rule in self.before_trace {
+            match (rule, scene.meaning.verdict) {
+                (41, _) if self.is_past_the_end(scene) => return nothing(Ending::Refused(41)),
+                (42, _) if (self.too_high)(limit) => return nothing(Ending::Refused(42)),
+                (43, _) if (words.len() as u64) < (self.words_asked)(limit) => return nothing(Ending::Refused(43)),
+                (1, Verdict::Refused { number, index }) => {
+                    return nothing(Ending::Unsound { number, index: (self.index)(index) })
+                }
+                _ => {}
+            }
+        }
+        let traced = self.frames(scene, words);
+        let behind = words.len().min((self.frame)(&Registers::default()).len() * traced.frames as usize);
+        (self.left)(&mut words[behind..]);
+        traced
+    }
+
+    // Frames that the buffer has no room for are left out of it; a walk that would not end ends here.
+    fn frames(&self, scene: &Scene, words: &mut [u64]) -> Traced {
+        let registers = scene.walk.registers;
+        let first = Registers { first: (self.first_mark)(registers.first), ..registers };
+        let limit = (self.in_force)(scene.walk.limit).min(300);
+        let (mut last, mut frames) = (first, 0);
+        loop {
+            last = match self.caller(scene, (self.starts_at)(first, last)) {
+                Ok(caller) => caller,
+                Err((number, _)) => return Traced { frames, ending: Ending::Refused(number) },
+            };
+            let frame = (self.frame)(&last);
+            words.iter_mut().skip(frame.len() * frames as usize).zip(&frame).for_each(|(word, new)| *word = *new);
+            frames += 1;
+            if let Some(ending) = (self.ending)(&last, frames == limit) {
+                return Traced { frames, ending };
+            }
+        }
+    }
+}
+
+impl Scene<'_> {
+    fn find(&self, pc: u64) -> Result<Found, u64> {
+        let row = row_for(self.meaning, self.walk.lies.section, pc)?;
+        let on_aarch64 = match self.as_aarch64 {
+            Some(other) => row_for(other, self.walk.lies.section, pc)?,
+            None => row,
+        };
+        Ok(Found { row, on_aarch64 })
+    }
+}
+
+fn row_for(meaning: &Meaning, address: u64, pc: u64) -> Result<Row, u64> {
+    let answer = obvious::answer(meaning.sorted, &meaning.functions, address, pc);
+    match answer.outcome {
+        Outcome::Found { row, .. } => Ok(row),
+        _ => Err(answer.refusal()),
+    }
+}
+
+// An AMD64 section's bytes with the other ABI and its fixed RA offset; its rows have counts that both allow.
+fn as_aarch64(section: &[u8], meaning: &Meaning) -> Option<Meaning> {
+    if meaning.verdict != Verdict::Accepted || section[4] != 3 {
+        return None;
+    }
+    let mut other = section.to_vec();
+    (other[4], other[6]) = (2, 0);
+    Some(Meaning { functions: functions(&other), ..meaning.clone() })
+}
+
+#[test]
+fn every_slip_is_noticed() {
+    let (mut noticed, mut walks) = (vec![0; SLIPS.len()], 0);
+    for case in cases::all().iter().filter(|case| !case.walks.is_empty()) {
+        let meaning = Meaning::read(&case.section);
+        let other = as_aarch64(&case.section, &meaning);
+        let amd64 = case.section.get(4) == Some(&3);
+        for (walk, right) in &case.walks {
+            let scene = Scene { walk, meaning: &meaning, amd64, as_aarch64: other.as_ref() };
+            assert_eq!(RIGHT.walked(&scene), *right, "{}: the right ways, {walk:x?}", case.name);
+            for ((_, slip), times) in SLIPS.iter().zip(&mut noticed) {
+                *times += u32::from(slip.walked(&scene) != *right);
+            }
+            walks += 1;
+        }
+    }
+    println!("{} slips in {walks} walks", SLIPS.len());
+    for ((name, _), times) in SLIPS.iter().zip(&noticed) {
+        println!("{times:>5} walks notice that {name}");
+    }
+    for ((name, _), times) in SLIPS.iter().zip(&noticed) {
+        assert!(*times > 0, "no walk notices that {name}");
+    }
+}
