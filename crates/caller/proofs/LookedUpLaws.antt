@@ -1,7 +1,7 @@
 -- A step on a section that was checked: by the layout that is at hand and by what a lookup answers, it is the step of `stepOf`,
 -- which knows the section through `look` alone.
 -- Assumes nothing.
-use mathlib.Core.Path.{_≡_, sym, _∙_, ap}
+use mathlib.Core.Path.{_≡_, sym, _∙_}
 use mathlib.Core.List.{List}
 use Prim.Native.Nat.{ℕ}
 use Rattle.section.specs.Meaning.{shapeOf}

@@ -4,7 +4,6 @@ use numbers::address::address_of;
 use section::row::Base;
 use section::row::Row;
 ghost use mathlib.Core.Path.{_≡_};
-ghost use lib.IntN.{ℤ};
 ghost use Rattle.numbers.specs.Address.{inMemory};
 ghost use Rattle.caller.specs.Caller.{askedOf, baseValue, cfaOf, callerSp, isLow};
 

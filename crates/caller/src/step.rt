@@ -170,19 +170,19 @@ impl Registers {
     pub fn step(self, section: &[u8], stack: &[u8], lies: Where) -> Step
         ensures { λ r. ⌜ r ≡ stepIn (now (section .entry)) (now (stack .entry)) lies self ⌝ }
     {
-        if window_fits(stack, lies.stack) {
-            return match check(section) {
-                Verdict::Refused { number, index } => Step::Unsound {
-                    old: self,
-                    number: number,
-                    index: index,
-                },
-                Verdict::Accepted => self.step_checked(section, layout_at(section), stack, lies),
+        if !window_fits(stack, lies.stack) {
+            return Step::Refused {
+                old: self,
+                number: 41,
             };
         }
-        Step::Refused {
-            old: self,
-            number: 41,
+        match check(section) {
+            Verdict::Refused { number, index } => Step::Unsound {
+                old: self,
+                number: number,
+                index: index,
+            },
+            Verdict::Accepted => self.step_checked(section, layout_at(section), stack, lies),
         }
     }
 }

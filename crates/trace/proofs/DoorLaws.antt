@@ -15,9 +15,10 @@ use Rattle.accept.specs.declared.verdict.Verdict.{Verdict}
 use Rattle.accept.specs.declared.verdict.Verdict.the-variants as verdict
 use Rattle.accept.proofs.Decides.{not-below, at-most, unless}
 use Rattle.accept.proofs.FaultLaws.{Table, end, line, FirstBroken, table-sound, table-breaks}
+use Rattle.caller.specs.Cases.{Rule41}
 use Rattle.caller.specs.declared.registers.Registers.{Registers}
 use Rattle.caller.specs.declared.registers.Where.{Where}
-use Rattle.trace.specs.Cases.{PastMemory, LimitAbove, TooFewWords, AtDoor, Opened}
+use Rattle.trace.specs.Cases.{LimitAbove, TooFewWords, AtDoor, Opened}
 use Rattle.trace.specs.Trace.{inForce, ended, withMark, checkedWalk, doorTests, doorFault, afterDoor, afterCheck, walkIn}
 use Rattle.trace.specs.declared.answer.Ending.the-variants.{Refused, Unsound}
 
@@ -60,16 +61,16 @@ module _ (stack : List ℕ) (lies : Where) (limit : ℕ) (buffer : List ℕ) whe
   door-shuts number = Iff·trans (table-breaks door-table number) (broken-at number)
 
   -- one number at a time
-  pub door-41 : AtDoor stack lies limit buffer 41 ↔ PastMemory stack lies
+  pub door-41 : AtDoor stack lies limit buffer 41 ↔ Rule41 stack lies
   door-41 = (⊎-elim (λ h. h .1) (⊎-elim (λ h. absurd (omega arith)) (λ h. absurd (omega arith))), λ h. inl (refl, h))
 
-  pub door-42 : AtDoor stack lies limit buffer 42 ↔ ((¬ PastMemory stack lies) × LimitAbove limit)
+  pub door-42 : AtDoor stack lies limit buffer 42 ↔ ((¬ Rule41 stack lies) × LimitAbove limit)
   door-42 = (
     ⊎-elim (λ h. absurd (omega arith)) (⊎-elim (λ h. (h .1, h .2)) (λ h. absurd (omega arith))),
     λ h. inr (inl (refl, h .0, h .1)),
   )
 
-  pub door-43 : AtDoor stack lies limit buffer 43 ↔ ((¬ PastMemory stack lies) × (¬ LimitAbove limit) × TooFewWords limit buffer)
+  pub door-43 : AtDoor stack lies limit buffer 43 ↔ ((¬ Rule41 stack lies) × (¬ LimitAbove limit) × TooFewWords limit buffer)
   door-43 = (
     ⊎-elim (λ h. absurd (omega arith)) (⊎-elim (λ h. absurd (omega arith)) (λ h. (h .1, h .2, h .3))),
     λ h. inr (inr (refl, h .0, h .1, h .2)),

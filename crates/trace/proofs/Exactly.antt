@@ -7,25 +7,25 @@ use mathlib.Core.List.{List, []}
 use mathlib.Core.Logic.{_↔_, Iff·trans, ⊎-elim}
 use Prim.Native.Nat.{ℕ, suc, _+_, _*_, _≤_, _<_}
 use native.Mathlib.Omega.{arith}
-use lib.Dec.{eqb}
 use lib.ListN.{length, getD, drop}
-use borrow.Author.Tests.{eqb-true, eqb-false, ne-eqb}
+use borrow.Author.Tests.{ne-eqb}
 use Rattle.section.specs.Meaning.{shapeOf}
 use Rattle.accept.specs.Checks.{verdict}
 use Rattle.accept.specs.declared.verdict.Verdict.the-variants as verdict
 use Rattle.accept.proofs.FaultLaws.{accepted-or-refused}
 use Rattle.lookup.specs.Finding.{lookIn}
-use Rattle.lookup.proofs.CoveringLaws.{by-value}
+use Rattle.caller.specs.Cases.{Rule41}
 use Rattle.caller.specs.declared.registers.Registers.{Registers}
 use Rattle.caller.specs.declared.registers.Step.{Step}
 use Rattle.caller.specs.declared.registers.Where.{Where}
-use Rattle.trace.specs.Cases.{PastMemory, LimitAbove, TooFewWords, Opened, noFrame, Follows, stepAt, Walks, Case}
+use Rattle.trace.specs.Cases.{LimitAbove, TooFewWords, Opened, noFrame, Follows, stepAt, Walks, Case}
 use Rattle.trace.specs.Trace.{Walk, Trace, inForce, frameOf, walkOf, withMark, checkedWalk, afterCheck, walkIn, allWords, over, tracedAs, traced, traceOf, endingNumber}
 use Rattle.trace.specs.declared.answer.Ending.{Ending}
 use Rattle.trace.specs.declared.answer.Ending.the-variants.{Outermost, Full, Refused, Unsound}
 use Rattle.trace.specs.declared.answer.Frame.{Frame}
 use Rattle.trace.proofs.BufferLaws.{over-length, over-first, over-after, over-kept, all-length, all-at}
 use Rattle.trace.proofs.DoorLaws.{door-41, door-42, door-43, not-open}
+use Rattle.trace.proofs.OpeningLaws.{in-force-small}
 use Rattle.trace.proofs.TraceLaws.{trace-case, case-whole, whole-follows, whole-room, whole-none, door-given, section-given, step-given, outermost-given, full-given}
 
 -- ---- "Limit 0 means 64; otherwise 1 to 256."
@@ -37,12 +37,6 @@ in-force-0 = refl
 pub in-force-else : (limit : ℕ) → ¬ (limit ≡ 0) → inForce limit ≡ limit
 unfolding inForce
 in-force-else limit other = rw (ne-eqb limit 0 other, inForce)
-
-in-force-most : (limit : ℕ) → limit ≤ 256 → inForce limit ≤ 256
-in-force-most limit le =
-    by-value (eqb limit 0)
-    (λ e. let z : limit ≡ 0 = eqb-true limit 0 e in rw z (omega (arith, in-force-0)))
-    (λ e. omega (arith, in-force-else limit (eqb-false limit 0 e)))
 
 module _ (s stack : List ℕ) (lies : Where) (registers : Registers) (limit : ℕ) (old : List ℕ) where
   abbrev trace : Trace
@@ -79,18 +73,18 @@ module _ (s stack : List ℕ) (lies : Where) (registers : Registers) (limit : �
   case-answers frames ending h = ap (λ w. traced w old) (trace-exactly-when frames ending .1 h)
 
   -- "41 stack address plus length above 2^64"
-  pub number-41-exactly-when : (endingNumber (trace .answer .ending) ≡ 41) ↔ PastMemory stack lies
+  pub number-41-exactly-when : (endingNumber (trace .answer .ending) ≡ 41) ↔ Rule41 stack lies
   unfolding traceOf traced tracedAs
   number-41-exactly-when = Iff·trans (door-given s stack lies registers limit old 41 (omega arith)) (door-41 stack lies limit old)
 
   -- "42 limit above 256"
-  pub number-42-exactly-when : (endingNumber (trace .answer .ending) ≡ 42) ↔ ((¬ PastMemory stack lies) × LimitAbove limit)
+  pub number-42-exactly-when : (endingNumber (trace .answer .ending) ≡ 42) ↔ ((¬ Rule41 stack lies) × LimitAbove limit)
   unfolding traceOf traced tracedAs
   number-42-exactly-when = Iff·trans (door-given s stack lies registers limit old 42 (omega arith)) (door-42 stack lies limit old)
 
   -- "43 fewer than 3 words per limit frame"
   pub number-43-exactly-when : (endingNumber (trace .answer .ending) ≡ 43)
-      ↔ ((¬ PastMemory stack lies) × (¬ LimitAbove limit) × TooFewWords limit old)
+      ↔ ((¬ Rule41 stack lies) × (¬ LimitAbove limit) × TooFewWords limit old)
   unfolding traceOf traced tracedAs
   number-43-exactly-when = Iff·trans (door-given s stack lies registers limit old 43 (omega arith)) (door-43 stack lies limit old)
 
@@ -148,7 +142,7 @@ module _ (s stack : List ℕ) (lies : Where) (registers : Registers) (limit : �
       rw frame-count
       (⊎-elim
       (λ none. omega arith)
-      (λ some. let le : limit ≤ 256 = omega (arith, some .0 .allowed) in omega (arith, in-force-most limit le))
+      (λ some. let le : limit ≤ 256 = omega (arith, some .0 .allowed) in omega (arith, in-force-small limit le))
       (whole-room s stack lies registers limit old))
 
   -- ---- words

@@ -1,4 +1,4 @@
--- What is tried before anything else, test by test, and what of it a walk needs.
+-- What is tried before anything else, test by test as the code makes them; what of it a walk relies on; and the whole trace by it.
 -- Assumes nothing.
 use borrow.Author.Tests.{ltb-true, ltb-false, lt-ltb, le-ltb}
 use native.Mathlib.Omega.{arith}

@@ -3,13 +3,14 @@
 use mathlib.Core.Path.{_≡_}
 use mathlib.Core.List.{List, []}
 use mathlib.Core.Logic.{_⊎_}
-use Prim.Native.Nat.{ℕ, suc, _+_, _*_, _^_, _≤_, _<_}
+use Prim.Native.Nat.{ℕ, suc, _*_, _≤_, _<_}
 use lib.ListN.{length, getD}
 use Rattle.section.specs.Meaning.{shapeOf}
 use Rattle.accept.specs.Checks.{verdict}
 use Rattle.accept.specs.declared.verdict.Verdict.the-variants as verdict
 use Rattle.lookup.specs.Finding.{lookIn}
 use Rattle.caller.specs.Caller.{stepOf, stepNumber}
+use Rattle.caller.specs.Cases.{Rule41}
 use Rattle.caller.specs.declared.registers.Registers.{Registers}
 use Rattle.caller.specs.declared.registers.Step.{Step}
 use Rattle.caller.specs.declared.registers.Step.the-variants.{Caller}
@@ -21,9 +22,7 @@ use Rattle.trace.specs.declared.answer.Frame.{Frame}
 
 -- ---- the door: "Before anything else, in order"
 
--- "41 stack address plus length above 2^64"
-abbrev pub PastMemory : List ℕ → Where → Type 0
-PastMemory stack lies = 2 ^ 64 < lies .stack + length stack
+-- "41 stack address plus length above 2^64": `Rule41`, as for one caller
 
 -- "42 limit above 256"
 abbrev pub LimitAbove : ℕ → Type 0
@@ -36,13 +35,13 @@ TooFewWords limit buffer = length buffer < 3 * inForce limit
 -- a number is given at the door where its rule holds and no earlier one does
 abbrev pub AtDoor : List ℕ → Where → ℕ → List ℕ → ℕ → Type 0
 AtDoor stack lies limit buffer number =
-    ((number ≡ 41) × PastMemory stack lies)
-    ⊎ (((number ≡ 42) × (¬ PastMemory stack lies) × LimitAbove limit)
-    ⊎ ((number ≡ 43) × (¬ PastMemory stack lies) × (¬ LimitAbove limit) × TooFewWords limit buffer))
+    ((number ≡ 41) × Rule41 stack lies)
+    ⊎ (((number ≡ 42) × (¬ Rule41 stack lies) × LimitAbove limit)
+    ⊎ ((number ≡ 43) × (¬ Rule41 stack lies) × (¬ LimitAbove limit) × TooFewWords limit buffer))
 
 -- none of the three
 pub record Opened (stack : List ℕ) (lies : Where) (limit : ℕ) (buffer : List ℕ) : Type 0 where
-  pub in-memory : ¬ PastMemory stack lies
+  pub in-memory : ¬ Rule41 stack lies
   pub allowed : ¬ LimitAbove limit
   pub room : ¬ TooFewWords limit buffer
 

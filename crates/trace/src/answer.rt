@@ -1,5 +1,4 @@
 // What a trace answers, and the frames that it writes.
-use accept::verdict::Fault;
 use caller::registers::Registers;
 use caller::registers::Step;
 ghost use mathlib.Core.Path.{_≡_};

@@ -5,7 +5,7 @@ use suntimpani_tests::maker::{Function, Machine, Row, Section, SORTED};
 use suntimpani_tests::reader::{self, Registers, Traced, Verdict, Where};
 use suntimpani_tests::timing::Times;
 use suntimpani_tests::walk::{lent, Walk};
-use suntimpani_tests::{cases, laid, library};
+use suntimpani_tests::{cases, laid, large, library};
 
 const ROUNDS: usize = 101;
 const FRAMES: u64 = 64;
@@ -13,10 +13,12 @@ const SEED: u64 = 20_260_103;
 
 fn main() {
     compare("S of document 01, a function that calls itself", &cases::S, &calls_itself(), 2_000);
-    let gas = cases::corpus_section("gas_exe");
-    compare("gas_exe of the corpus, frames all over it", &gas, &laid::through(&gas, FRAMES as usize, SEED), 20);
+    let hundred = large::many_functions(100).bytes();
+    compare("100 functions, frames all over them", &hundred, &laid::through(&hundred, FRAMES as usize, SEED), 2_000);
     let big = small_big_endian();
     compare("4 functions, AArch64 big-endian", &big, &laid::through(&big, FRAMES as usize, SEED), 2_000);
+    let gas = cases::corpus_section("gas_exe");
+    compare("gas_exe of the corpus, frames all over it", &gas, &laid::through(&gas, FRAMES as usize, SEED), 20);
 }
 
 // A chain of frame pointers in the first function of S: FP and RA in 16 bytes a frame, and the stack's end at its top.
@@ -50,14 +52,19 @@ struct Side {
 }
 
 impl Side {
-    // Prints the times and returns the nanoseconds of one frame, the check taken off.
-    fn report(&self, who: &str) -> f64 {
+    // Prints the times and returns the nanoseconds of a whole trace and of one frame, the check taken off. Where a
+    // trace is little more than its check, a frame's share is lost in the noise, and there is none.
+    fn report(&self, who: &str) -> (f64, Option<f64>) {
         self.traces.report(&format!("{who}, a trace"));
         self.checks.report(&format!("{who}, the check alone"));
-        let whole = self.traces.median().as_secs_f64() * 1e9 / FRAMES as f64;
-        let frame = self.traces.above(&self.checks).median().as_secs_f64() * 1e9 / FRAMES as f64;
-        println!("  {who:<24} {frame:>17.1} ns a frame, {whole:.1} with the check");
-        frame
+        let nanoseconds = |times: &Times| times.median().as_secs_f64() * 1e9;
+        let whole = nanoseconds(&self.traces);
+        let frames = nanoseconds(&self.traces.above(&self.checks));
+        let frame = (frames > whole / 2.0).then_some(frames / FRAMES as f64);
+        if let Some(frame) = frame {
+            println!("  {who:<24} {frame:>17.1} ns a frame");
+        }
+        (whole, frame)
     }
 }
 
@@ -72,8 +79,12 @@ fn compare(name: &str, section: &[u8], walk: &Walk, times: u32) {
         reader.traces.take(times, || repeat(times, || by_reader(black_box(section), walk, &mut buffer)));
     }
     println!("{name}: {} bytes, {ROUNDS} rounds of {times} traces of {FRAMES} frames", section.len());
-    let (library, reader) = (library.report("library"), reader.report("reader"));
-    println!("  library / reader, a frame by medians  {:.2}", library / reader);
+    let ((library_whole, library_frame), (reader_whole, reader_frame)) =
+        (library.report("library"), reader.report("reader"));
+    println!("  library / reader, a whole trace by medians  {:.2}", library_whole / reader_whole);
+    if let (Some(library), Some(reader)) = (library_frame, reader_frame) {
+        println!("  library / reader, a frame by medians  {:.2}", library / reader);
+    }
 }
 
 // What is timed is first seen to be the same walk on both sides, word for word.

@@ -1,8 +1,7 @@
 -- `walk::trace` tries the door and the section, and walks where both are sound.
 -- Assumes nothing.
 use borrow.Author.Needs.{needs}
-use mathlib.Core.Path.{_≡_, sym, _∙_, ap}
-use lib.ListN.{length}
+use mathlib.Core.Path.{sym, _∙_}
 use Rattle.accept.proofs.AcceptedLaws.{accepted-laws}
 use Rattle.trace.proofs.OpeningLaws.{in-force-small, door-allows, refused-at-door, refused-by-section, walked}
 use Rattle.trace.proofs.walk.trace.Statement.{statement}
