@@ -28,7 +28,7 @@ use Rattle.lookup.specs.Finding.{Finding, lookIn}
 use Rattle.lookup.proofs.CoveringLaws.{is-true}
 use Rattle.lookup.proofs.Exactly as lookup
 use Rattle.caller.specs.Caller.{cfaOf, callerSp, bothOf, withValues, askedOf, lookAt, stepOf, afterCheck, stepIn, stepNumber, stepIndexes, stepRegisters}
-use Rattle.caller.specs.Cases.{Rule41, WindowFits, ValueIs, NoMark, Rule24, Rule25, Rule26, Rule27, Rule28, Refusal, window, noFunction, dispute, noRow, signed, cfaOutside, cfaLow, raLost, wordOutside, numberOfRefusal, RowAt, NoRowAt, CfaAt, WordsAt, Given, CallerCase, RaInBytes, FpInBytes, Case}
+use Rattle.caller.specs.Cases.{Rule41, WindowFits, ValueIs, NoMark, Aarch64, Rule24, Rule25, Rule26, Rule27, Rule28, Refusal, window, noFunction, dispute, noRow, signed, cfaOutside, cfaLow, raLost, wordOutside, numberOfRefusal, Known, RowAt, NoRowAt, CfaAt, WordsAt, Given, CallerCase, RaInBytes, FpInBytes, Case}
 use Rattle.caller.specs.declared.place.Values.{Values}
 use Rattle.caller.specs.declared.place.Values.the-variants.{Both, NoRa, NoFp}
 use Rattle.caller.specs.declared.registers.Registers.{Registers}
@@ -36,9 +36,9 @@ use Rattle.caller.specs.declared.registers.Step.{Step}
 use Rattle.caller.specs.declared.registers.Step.the-variants.{Caller, Unsound, Refused}
 use Rattle.caller.specs.declared.registers.Where.{Where}
 use Rattle.caller.proofs.FindingLaws.{refuses-exactly-when, finds-exactly-when}
-use Rattle.caller.proofs.MachineLaws.{Aarch64, rule-24-bytes, rule-27-bytes, ra-in-bytes, fp-in-bytes}
+use Rattle.caller.proofs.MachineLaws.{rule-24-bytes, rule-27-bytes, ra-in-bytes, fp-in-bytes}
 use Rattle.caller.proofs.NumberLaws as numbers
-use Rattle.caller.proofs.NumberLaws.{Known, Checked, known, checked, by-number}
+use Rattle.caller.proofs.NumberLaws.{Checked, known, checked, by-number}
 use Rattle.caller.proofs.StepLaws as steps
 use Rattle.caller.proofs.TestLaws.{fits-shows}
 

@@ -4,7 +4,7 @@
 use mathlib.Core.Path.{_≡_, refl, _∙_, ap}
 use mathlib.Core.Bool.{true, false, true≢false, false≢true}
 use mathlib.Core.List.{List}
-use mathlib.Core.Logic.{_⊎_, inl, inr, _↔_}
+use mathlib.Core.Logic.{inl, inr, _↔_}
 use Prim.Native.Nat.{ℕ, _+_, _^_, _≤_, _<_}
 use native.Mathlib.Omega.{arith}
 use lib.Dec.{ltb}
@@ -27,14 +27,10 @@ use Rattle.accept.proofs.AcceptedLaws.{accepted-laws}
 use Rattle.accept.proofs.Decides.{both}
 use Rattle.lookup.specs.Cases.{rowOfFunction}
 use Rattle.lookup.proofs.CoveringLaws.{by-value, is-true}
-use Rattle.caller.specs.Cases.{ValueIs, NoMark, Rule24, Rule27, RaOnAarch64, RaInBytes, FpInBytes}
+use Rattle.caller.specs.Cases.{Aarch64, ValueIs, NoMark, Rule24, Rule27, RaOnAarch64, RaInBytes, FpInBytes}
 use Rattle.caller.specs.declared.registers.Registers.{Registers}
 use Rattle.caller.specs.declared.registers.Where.{Where}
 use Rattle.caller.proofs.TestLaws.{is-set}
-
--- AArch64, in either byte order
-abbrev pub Aarch64 : Abi → Type 0
-Aarch64 abi = (abi ≡ Aarch64Big) ⊎ (abi ≡ Aarch64Little)
 
 amd64-not : ¬ Aarch64 Amd64
 amd64-not (inl e) = let z : _≡_ {A = ℕ} 0 1 = cc in omega arith

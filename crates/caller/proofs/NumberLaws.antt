@@ -20,7 +20,7 @@ use Rattle.accept.proofs.Exactly.{refused-by-a-rule}
 use Rattle.lookup.specs.Finding.{Finding, lookIn}
 use Rattle.lookup.proofs.CoveringLaws.{by-value}
 use Rattle.caller.specs.Caller.{cfaOf, callerSp, isSigned, isLow, isLost, spotOf, valuesOf, withValues, fromSpots, fromCfa, withCfa, fromRow, fromFinding, askedOf, lookAt, stepOf, stepIn, stepNumber}
-use Rattle.caller.specs.Cases.{WindowFits, Refusal, window, noFunction, dispute, noRow, signed, cfaOutside, cfaLow, raLost, wordOutside, numberOfRefusal, Given, Case}
+use Rattle.caller.specs.Cases.{Known, WindowFits, Refusal, window, noFunction, dispute, noRow, signed, cfaOutside, cfaLow, raLost, wordOutside, numberOfRefusal, Given, Case}
 use Rattle.caller.specs.declared.place.Spot.{Spot}
 use Rattle.caller.specs.declared.place.Values.{Values}
 use Rattle.caller.specs.declared.place.Values.the-variants.{Both, NoRa, NoFp}
@@ -100,11 +100,7 @@ section-number s number index e =
 
 -- ---- by number
 
--- 0, 1 to 15, 21 to 28 or 41
-abbrev pub Known : ℕ → Type 0
-Known number = (number ≡ 0) ⊎ ((1 ≤ number) × (number ≤ 15)) ⊎ ((21 ≤ number) × (number ≤ 28)) ⊎ (number ≡ 41)
-
--- so none of 29 to 40
+-- none of 29 to 40 is a step's
 pub not-known : (number : ℕ) → 29 ≤ number → number ≤ 40 → ¬ Known number
 not-known number least most (inl h) = omega arith
 not-known number least most (inr (inl h)) = omega arith

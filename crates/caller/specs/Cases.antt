@@ -69,6 +69,10 @@ Outside stack lies cfa (AtOffset offset) = ¬ Inside stack lies (pos cfa +ℤ of
 abbrev pub NoMark : Registers → Type 0
 NoMark registers = registers .first ≡ 0
 
+-- AArch64, in either byte order
+abbrev pub Aarch64 : Abi → Type 0
+Aarch64 abi = (abi ≡ Aarch64Big) ⊎ (abi ≡ Aarch64Little)
+
 -- 24: "AArch64 and the row's signed bit is set.", in the row's bytes `rule-24-in-bytes`
 abbrev pub Rule24 : Shape → Row → Type 0
 Rule24 shape row = (shape .signs ≡ true) × (row .signed ≡ true)
@@ -121,6 +125,10 @@ numberOfRefusal cfaOutside = 25
 numberOfRefusal cfaLow = 26
 numberOfRefusal raLost = 27
 numberOfRefusal wordOutside = 28
+
+-- the numbers that a step can have: 0 for a caller, 1 to 15 of the section, and these
+abbrev pub Known : ℕ → Type 0
+Known number = (number ≡ 0) ⊎ ((1 ≤ number) × (number ≤ 15)) ⊎ ((21 ≤ number) × (number ≤ 28)) ⊎ (number ≡ 41)
 
 -- ---- "Checks in order": what a step came to
 
