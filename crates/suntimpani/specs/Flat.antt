@@ -20,8 +20,8 @@ use Rattle.trace.specs.Trace.{Trace, endingNumber, endingIndexes}
 use Rattle.trace.specs.declared.answer.Traced.{Traced}
 use Rattle.suntimpani.specs.declared.flat.Checked.{Checked}
 use Rattle.suntimpani.specs.declared.flat.Looked.{Looked}
-use Rattle.suntimpani.specs.declared.flat.Stepped.{Stepped}
-use Rattle.suntimpani.specs.declared.flat.Walked.{Walked}
+use Rattle.suntimpani.specs.declared.walks.Stepped.{Stepped}
+use Rattle.suntimpani.specs.declared.walks.Walked.{Walked}
 
 -- number 0 is accepted
 unfoldable pub flatVerdict : Verdict → Checked

@@ -1,17 +1,13 @@
-// Each answer as the flat struct that C sees. Fields without meaning in a case are 0.
+// Verdicts and lookups' answers as the flat structs that C sees. Fields without meaning in a case are 0.
 use accept::verdict::Verdict;
-use caller::registers::Registers;
-use caller::registers::Step;
 use lookup::answer::Answer;
 use lookup::answer::Outcome;
 use numbers::offset::Offset;
 use section::row::Base;
 use section::row::Place;
 use section::row::Row;
-use trace::answer::Ending;
-use trace::answer::Traced;
 ghost use mathlib.Core.Path.{_≡_};
-ghost use Rattle.suntimpani.specs.Flat.{flatVerdict, baseNumber, placeKind, placeOffset, flag, noRow, flatRow, flatAnswer, flatStep, flatTraced};
+ghost use Rattle.suntimpani.specs.Flat.{flatVerdict, baseNumber, placeKind, placeOffset, flag, noRow, flatRow, flatAnswer};
 
 // A verdict: number 0 is accepted, else the number and the entry's index.
 #[repr(C)]
@@ -36,22 +32,6 @@ pub struct Looked {
     pub fpplace: u64,
     pub fp: i64,
     pub signedra: u64,
-}
-
-// What a step answers: number 0 is the caller's registers, else the old ones, the number and, for 1 to 15, the entry's index.
-#[repr(C)]
-pub struct Stepped {
-    pub registers: Registers,
-    pub number: u64,
-    pub index: u64,
-}
-
-// What a trace answers: how many frames were written, the ending's number and, for 1 to 15, the entry's index.
-#[repr(C)]
-pub struct Walked {
-    pub frames: u64,
-    pub ending: u64,
-    pub index: u64,
 }
 
 pub fn flat_verdict(answer: Verdict) -> Checked
@@ -167,56 +147,5 @@ pub fn flat_answer(answer: Answer) -> Looked
         Outcome::NoFunction => flat_row(21, 0, 0, compared, 0, no_row()),
         Outcome::Dispute { first, second } => flat_row(22, first, second, compared, 0, no_row()),
         Outcome::NoRow { function } => flat_row(23, function, 0, compared, 0, no_row()),
-    }
-}
-
-pub fn flat_step(step: Step) -> Stepped
-    ensures { λ r. ⌜ r ≡ flatStep step ⌝ }
-{
-    match step {
-        Step::Caller(caller) => Stepped {
-            registers: caller,
-            number: 0,
-            index: 0,
-        },
-        Step::Unsound { old, number, index } => Stepped {
-            registers: old,
-            number: number,
-            index: index,
-        },
-        Step::Refused { old, number } => Stepped {
-            registers: old,
-            number: number,
-            index: 0,
-        },
-    }
-}
-
-pub fn flat_traced(traced: Traced) -> Walked
-    ensures { λ r. ⌜ r ≡ flatTraced traced ⌝ }
-{
-    let frames = traced.frames;
-    let ending = traced.ending;
-    match ending {
-        Ending::Outermost => Walked {
-            frames: frames,
-            ending: 30,
-            index: 0,
-        },
-        Ending::Full => Walked {
-            frames: frames,
-            ending: 31,
-            index: 0,
-        },
-        Ending::Refused(number) => Walked {
-            frames: frames,
-            ending: number,
-            index: 0,
-        },
-        Ending::Unsound { number, index } => Walked {
-            frames: frames,
-            ending: number,
-            index: index,
-        },
     }
 }

@@ -1,14 +1,15 @@
 // The C surface, a static library: flat answers by value, nothing allocated, nothing kept.
 pub mod flat;
+pub mod walks;
 
 use crate::flat::Checked;
 use crate::flat::Looked;
-use crate::flat::Stepped;
-use crate::flat::Walked;
 use crate::flat::flat_answer;
-use crate::flat::flat_step;
-use crate::flat::flat_traced;
 use crate::flat::flat_verdict;
+use crate::walks::Stepped;
+use crate::walks::Walked;
+use crate::walks::flat_step;
+use crate::walks::flat_traced;
 use accept::section_check::check;
 use caller::registers::Registers;
 use caller::registers::Where;

@@ -3,8 +3,8 @@
 use borrow.Author.Needs.{needs}
 use Rattle.caller.specs.Caller.{stepNumber, stepIndexes, stepRegisters}
 use Rattle.suntimpani.specs.Flat.{flatStep}
-use Rattle.suntimpani.proofs.flat.flat_step.Statement.{statement}
-use Rattle.suntimpani.proofs.flat.flat_step.Tie as tie
+use Rattle.suntimpani.proofs.walks.flat_step.Statement.{statement}
+use Rattle.suntimpani.proofs.walks.flat_step.Tie as tie
 
 returns : tie.Need-returns
 unfolding stepNumber stepIndexes stepRegisters flatStep

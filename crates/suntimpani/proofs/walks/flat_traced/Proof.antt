@@ -3,8 +3,8 @@
 use borrow.Author.Needs.{needs}
 use Rattle.trace.specs.Trace.{endingNumber, endingIndexes}
 use Rattle.suntimpani.specs.Flat.{flatTraced}
-use Rattle.suntimpani.proofs.flat.flat_traced.Statement.{statement}
-use Rattle.suntimpani.proofs.flat.flat_traced.Tie as tie
+use Rattle.suntimpani.proofs.walks.flat_traced.Statement.{statement}
+use Rattle.suntimpani.proofs.walks.flat_traced.Tie as tie
 
 returns : tie.Need-returns
 unfolding endingNumber endingIndexes flatTraced
