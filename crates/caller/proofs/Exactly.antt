@@ -373,6 +373,10 @@ module _ (s : List ℕ) (address : ℕ) (stack : List ℕ) (lies : Where) (regis
   pub checked-never-31 : ¬ (stepNumber (stepOf (shapeOf s) (lookIn s address) stack lies registers) ≡ 31)
   checked-never-31 is = ⊎-elim (λ h. omega arith) (λ h. omega arith) (checked-numbers 31 is)
 
+  -- "no mark"
+  pub checked-unmarked : (caller : Registers) → stepOf (shapeOf s) (lookIn s address) stack lies registers ≡ Caller caller → caller .first ≡ 0
+  checked-unmarked caller is = rw is at answer-checked
+
   pub checked-old : ¬ (stepNumber (stepOf (shapeOf s) (lookIn s address) stack lies registers) ≡ 0)
       → stepRegisters (stepOf (shapeOf s) (lookIn s address) stack lies registers) ≡ registers
   unfolding stepNumber stepRegisters

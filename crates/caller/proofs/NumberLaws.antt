@@ -152,9 +152,9 @@ module _ (s stack : List ℕ) (lies : Where) (registers : Registers) where
 
 -- ---- a step in a checked section
 
--- a caller, or the old registers with a number from 21 to 28
+-- a caller without a mark, or the old registers with a number from 21 to 28
 abbrev pub Checked : Registers → Step → Type 0
-Checked registers (Caller caller) = Unit
+Checked registers (Caller caller) = caller .first ≡ 0
 Checked registers (Unsound old number index) = ⊥
 Checked registers (Refused old number) = (old ≡ registers) × (21 ≤ number) × (number ≤ 28)
 
@@ -163,7 +163,7 @@ module _ (shape : Shape) (stack : List ℕ) (lies : Where) (registers : Register
   unfolding withValues
   values-checked cfa NoRa = (refl, omega arith, omega arith)
   values-checked cfa NoFp = (refl, omega arith, omega arith)
-  values-checked cfa (Both ra fp) = tt
+  values-checked cfa (Both ra fp) = refl
 
   spots-checked : (cfa : ℕ) (ra fp : Spot) → Checked registers (fromSpots shape stack lies registers cfa ra fp)
   unfolding fromSpots

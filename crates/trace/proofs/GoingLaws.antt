@@ -9,10 +9,17 @@ use Rattle.caller.specs.Caller.{stepNumber}
 use Rattle.caller.specs.declared.registers.Registers.{Registers}
 use Rattle.caller.specs.declared.registers.Step.{Step}
 use Rattle.caller.specs.declared.registers.Step.the-variants as stepped
+use Rattle.trace.specs.Inner.{withoutMark}
 use Rattle.trace.specs.Trace.{frameOf, wordsOf, ended, walkOf, put, tracedAs, traced}
 use Rattle.trace.specs.declared.answer.Ending.the-variants.{Outermost, Full, Refused}
 use Rattle.trace.proofs.BufferLaws.{put-length}
 use Rattle.trace.proofs.WalkLaws.{tracedFrom, begins, ends, writes-next, walk-no-caller, walk-outermost, walk-on, walk-full}
+
+-- a caller goes on as it is
+pub unmarked-same : (caller : Registers) → caller .first ≡ 0 → withoutMark caller ≡ caller
+unfolding withoutMark
+unmarked-same caller none =
+    ap (λ n. record { pc = caller .pc; sp = caller .sp; fp = caller .fp; lr = caller .lr; first = n }) (sym none)
 
 -- `frames` frames are written to b, and `left` more are allowed from the registers `current` on
 pub record Going (step : Registers → Step) (limit : ℕ) (start : Registers) (old b : List ℕ) (current : Registers) (frames left : ℕ) : Type 0 where

@@ -1,3 +1,4 @@
 pub mod Cases
+pub mod Inner
 pub mod Opened
 pub mod Trace

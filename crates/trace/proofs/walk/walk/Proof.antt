@@ -10,9 +10,11 @@ use types.Run.{miss}
 use Rattle.section.specs.Meaning.{shapeOf}
 use Rattle.lookup.specs.Finding.{lookIn}
 use Rattle.caller.specs.Caller.{stepOf}
+use Rattle.caller.proofs.Exactly.{checked-unmarked}
+use Rattle.trace.specs.Inner.{withoutMark}
 use Rattle.trace.specs.Trace.{frameOf, wordsOf, checkedWalk, put, tracedAs}
 use Rattle.trace.specs.declared.answer.Ending.the-variants.{Outermost, Refused}
-use Rattle.trace.proofs.GoingLaws.{Going, going-begins, going-full, going-refused, going-fits, going-same, going-outermost, going-on}
+use Rattle.trace.proofs.GoingLaws.{unmarked-same, Going, going-begins, going-full, going-refused, going-fits, going-same, going-outermost, going-on}
 use Rattle.trace.proofs.walk.walk.Statement.{statement}
 use Rattle.trace.proofs.walk.walk.Tie as tie
 
@@ -96,19 +98,28 @@ returns-2 c =
     ∙ going-outermost (turn .before .loop .inv) (more turn) (turn .before .before .before .before .before .pre .2) yields (c .if1 .taken)
 
 sub-left : tie.Need-sub-left Inv-loop μ-loop
-sub-left c = more (turn-of (c .before .before .before .before .before .before .before))
+sub-left c = more (turn-of (c .before .before .before .before .before .before .before .before))
 
 loop-less : tie.Need-loop-less Inv-loop μ-loop
-loop-less c = omega (arith, more (turn-of (c .before .before .before .before .before .before .before)))
+loop-less c = omega (arith, more (turn-of (c .before .before .before .before .before .before .before .before)))
+
+-- the next step begins with the caller
+next : (c : tie.After-without-mark Inv-loop μ-loop) → c .without-mark .result ≡ told-of (c .before .before .before .before .before) .before .step .given .0 .0
+next c =
+    let told = told-of (c .before .before .before .before .before) in
+    let caller = told .before .step .given .0 .0 in
+    let is : c .without-mark .result ≡ withoutMark caller = c .without-mark .ensures in
+    let yields = sym (told .before .before .before .step-checked .ensures) ∙ told .before .step .given .1 in
+    is ∙ unmarked-same caller (checked-unmarked _ _ _ _ _ caller yields)
 
 loop-again : tie.Need-loop-again Inv-loop μ-loop
 loop-again c =
-    let written = c .before .before .before .before in
+    let written = c .before .before .before .before .before in
     let told = told-of written in
     let turn = turn-of told in
     let yields = sym (told .before .before .before .step-checked .ensures) ∙ told .before .step .given .1 in
-    rw (written-is written)
-    (going-on (turn .before .loop .inv) (more turn) (turn .before .before .before .before .before .pre .2) yields (c .if1 .left))
+    rw (written-is written, next c)
+    (going-on (turn .before .loop .inv) (more turn) (turn .before .before .before .before .before .pre .2) yields (c .before .if1 .left))
 
 -- ---- the limit is full
 
@@ -137,6 +148,7 @@ walk-spec =
     add-frames
     same-length-2
     returns-2
+    (λ c κs. search needs)
     sub-left
     loop-less
     loop-again
