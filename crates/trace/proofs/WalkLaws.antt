@@ -12,7 +12,8 @@ use Rattle.caller.specs.Caller.{stepNumber}
 use Rattle.caller.specs.declared.registers.Registers.{Registers}
 use Rattle.caller.specs.declared.registers.Step.{Step}
 use Rattle.caller.specs.declared.registers.Step.the-variants as stepped
-use Rattle.trace.specs.Trace.{Walk, Trace, frameOf, wordsOf, ended, withFrame, unlessOutermost, onward, walkOf, allWords, put, tracedAs, traced}
+use Rattle.trace.specs.Inner.{put}
+use Rattle.trace.specs.Trace.{Walk, Trace, frameOf, wordsOf, ended, withFrame, unlessOutermost, onward, walkOf, allWords, tracedAs, traced}
 use Rattle.trace.specs.declared.answer.Ending.{Ending}
 use Rattle.trace.specs.declared.answer.Ending.the-variants.{Outermost, Full, Refused}
 use Rattle.trace.specs.declared.answer.Frame.{Frame}

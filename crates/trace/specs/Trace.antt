@@ -3,7 +3,7 @@ use Prim.Native.Nat.{ℕ, zero, suc, _*_}
 use mathlib.Core.Bool.{Bool, true, false, not}
 use mathlib.Core.List.{List, [], _∷_, _++_}
 use lib.Dec.{eqb, ltb}
-use lib.ListN.{length, take, drop}
+use lib.ListN.{length, drop}
 use Rattle.numbers.specs.Address.{windowFits}
 use Rattle.section.specs.Meaning.{shapeOf}
 use Rattle.accept.specs.Checks.{firstBad, verdict}
@@ -107,10 +107,6 @@ allWords (frame ∷ frames) = wordsOf frame ++ allWords frames
 -- "Words after the written frames keep what they held."
 unfoldable pub over : List ℕ → List ℕ → List ℕ
 over words old = words ++ drop (length words) old
-
--- words written from a place on
-unfoldable pub put : List ℕ → ℕ → List ℕ → List ℕ
-put old at words = take at old ++ over words (drop at old)
 
 pub record Trace : Type 0 where
   pub answer : Traced

@@ -5,7 +5,8 @@ ghost use mathlib.Core.Path.{_≡_};
 ghost use Prim.Native.Nat.{_+_, _≤_};
 ghost use lib.ListN.{length};
 ghost use Rattle.caller.specs.Caller.{stepNumber};
-ghost use Rattle.trace.specs.Trace.{frameOf, wordsOf, put};
+ghost use Rattle.trace.specs.Inner.{put};
+ghost use Rattle.trace.specs.Trace.{frameOf, wordsOf};
 
 // One frame: the three words that are written of it.
 pub struct Frame {

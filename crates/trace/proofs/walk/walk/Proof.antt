@@ -11,8 +11,8 @@ use Rattle.section.specs.Meaning.{shapeOf}
 use Rattle.lookup.specs.Finding.{lookIn}
 use Rattle.caller.specs.Caller.{stepOf}
 use Rattle.caller.proofs.Exactly.{checked-unmarked}
-use Rattle.trace.specs.Inner.{withoutMark}
-use Rattle.trace.specs.Trace.{frameOf, wordsOf, checkedWalk, put, tracedAs}
+use Rattle.trace.specs.Inner.{withoutMark, put}
+use Rattle.trace.specs.Trace.{frameOf, wordsOf, checkedWalk, tracedAs}
 use Rattle.trace.specs.declared.answer.Ending.the-variants.{Outermost, Refused}
 use Rattle.trace.proofs.GoingLaws.{unmarked-same, Going, going-begins, going-full, going-refused, going-fits, going-same, going-outermost, going-on}
 use Rattle.trace.proofs.walk.walk.Statement.{statement}
