@@ -5,7 +5,8 @@
 use mathlib.Core.Path.{_≡_, refl, sym, _∙_, ap}
 use mathlib.Core.List.{List, [], _∷_}
 use mathlib.Core.Logic.{_⊎_, inl, inr, _↔_, Iff·trans, ⊎-elim}
-use Prim.Native.Nat.{ℕ, _-_, _<_}
+use Prim.Native.Nat.{ℕ, _-_, _≤_, _<_}
+use native.Mathlib.Omega.{arith}
 use lib.ListN.{getD}
 use Rattle.section.specs.Entry.{typeOf}
 use Rattle.section.specs.Meaning.{areaOf, shapeOf, entryIn, rowAt}
@@ -223,6 +224,30 @@ refused-by-a-rule s number i e =
     let same : i ≡ j = cc in
     (rule, cc, rw same given))
     (obeys-or-refusal s)
+
+-- its number is 1 to 15
+pub number-of-rule : (rule : Rule) → (1 ≤ numberOfRule rule) × (numberOfRule rule ≤ 15)
+unfolding numberOfRule
+number-of-rule short = omega arith
+number-of-rule long = omega arith
+number-of-rule magic = omega arith
+number-of-rule version = omega arith
+number-of-rule flags = omega arith
+number-of-rule abi = omega arith
+number-of-rule fixed = omega arith
+number-of-rule sizes = omega arith
+number-of-rule entryInfo = omega arith
+number-of-rule repeatSize = omega arith
+number-of-rule rowsInside = omega arith
+number-of-rule rowInfo = omega arith
+number-of-rule rowsRising = omega arith
+number-of-rule sorted = omega arith
+number-of-rule rowSum = omega arith
+
+pub verdict-number : (s : List ℕ) (number i : ℕ) → verdict s ≡ Refused number i → (1 ≤ number) × (number ≤ 15)
+verdict-number s number i e =
+    let (rule, is, given) = refused-by-a-rule s number i e in
+    rw is (number-of-rule rule)
 
 -- the rules by their numbers, from 1 on
 rules : List Rule

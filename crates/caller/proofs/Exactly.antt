@@ -21,7 +21,7 @@ use Rattle.accept.specs.Given as accept
 use Rattle.accept.specs.Given.{Rule, numberOfRule}
 use Rattle.accept.specs.Rules.{rowInfoAt}
 use Rattle.accept.specs.declared.verdict.Verdict.the-variants as verdict
-use Rattle.accept.proofs.Exactly.{given-exactly-when}
+use Rattle.accept.proofs.Exactly.{given-exactly-when, verdict-number}
 use Rattle.lookup.specs.Answers.{lookupOf, outcomeNumber}
 use Rattle.lookup.specs.Cases.{NoneCovers, SomeTwoCover, FoundCase, NoRowCase}
 use Rattle.lookup.specs.Finding.{Finding, lookIn}
@@ -227,7 +227,7 @@ module _ (s stack : List ℕ) (lies : Where) (registers : Registers) where
     where
       numbered : (o : Step) → Case s stack lies registers o → stepNumber o ≡ 0 → (caller : Registers) × CallerCase s stack lies registers caller
       numbered (Caller caller) h is = (caller, h)
-      numbered (Unsound old number index) h is = absurd (omega (arith, numbers.section-number s number index (h .2)))
+      numbered (Unsound old number index) h is = absurd (omega (arith, verdict-number s number index (h .2)))
       numbered (Refused old number) h is = absurd (omega (arith, numbers.above-15 (h .1), h .2))
 
   -- the caller's registers by themselves; CFA is its SP

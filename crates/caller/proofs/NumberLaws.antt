@@ -1,6 +1,6 @@
 -- The numbers of a step: which there are, and that each is given exactly when its refusal is the first (`number-exactly-when`), or
--- the section's check refuses with it (`rule-exactly-when`). And what a step in a checked section can be, for any shape: never a section's refusal, and where
--- it is refused, the old registers with 21 to 28 (`checked`).
+-- the section's check refuses with it (`rule-exactly-when`). And what a step in a checked section can be, for any shape: never a
+-- section's refusal, and where it is refused, the old registers with 21 to 28 (`checked`).
 -- Assumes nothing.
 use mathlib.Core.Path.{_≡_, refl, sym, _∙_, ap}
 use mathlib.Core.List.{List, [], _∷_}
@@ -14,9 +14,9 @@ use Rattle.numbers.specs.declared.address.Address.the-variants as address
 use Rattle.section.specs.declared.row.Row.{Row}
 use Rattle.section.specs.declared.shape.Shape.{Shape}
 use Rattle.accept.specs.Checks.{verdict}
-use Rattle.accept.specs.Given.{Rule, short, long, magic, version, flags, abi, fixed, sizes, entryInfo, repeatSize, rowsInside, rowInfo, rowsRising, sorted, rowSum, numberOfRule}
+use Rattle.accept.specs.Given.{Rule, numberOfRule}
 use Rattle.accept.specs.declared.verdict.Verdict.the-variants as verdict
-use Rattle.accept.proofs.Exactly.{refused-by-a-rule}
+use Rattle.accept.proofs.Exactly.{number-of-rule, verdict-number}
 use Rattle.lookup.specs.Finding.{Finding, lookIn}
 use Rattle.lookup.proofs.CoveringLaws.{by-value}
 use Rattle.caller.specs.Caller.{cfaOf, callerSp, isSigned, isLow, isLost, spotOf, valuesOf, withValues, fromSpots, fromCfa, withCfa, fromRow, fromFinding, askedOf, lookAt, stepOf, stepIn, stepNumber}
@@ -73,31 +73,6 @@ refusal-number wordOutside = inl (omega arith)
 pub above-15 : (refusal : Refusal) → 16 ≤ numberOfRefusal refusal
 above-15 refusal = ⊎-elim (λ h. omega arith) (λ h. omega arith) (refusal-number refusal)
 
--- ---- the numbers of a section's checks, 1 to 15
-
-rule-number : (rule : Rule) → (1 ≤ numberOfRule rule) × (numberOfRule rule ≤ 15)
-unfolding numberOfRule
-rule-number short = omega arith
-rule-number long = omega arith
-rule-number magic = omega arith
-rule-number version = omega arith
-rule-number flags = omega arith
-rule-number abi = omega arith
-rule-number fixed = omega arith
-rule-number sizes = omega arith
-rule-number entryInfo = omega arith
-rule-number repeatSize = omega arith
-rule-number rowsInside = omega arith
-rule-number rowInfo = omega arith
-rule-number rowsRising = omega arith
-rule-number sorted = omega arith
-rule-number rowSum = omega arith
-
-pub section-number : (s : List ℕ) (number index : ℕ) → verdict s ≡ verdict.Refused number index → (1 ≤ number) × (number ≤ 15)
-section-number s number index e =
-    let (rule, is, given) = refused-by-a-rule s number index e in
-    rw is (rule-number rule)
-
 -- ---- by number
 
 -- none of 29 to 40 is a step's
@@ -111,7 +86,7 @@ module _ (s stack : List ℕ) (lies : Where) (registers : Registers) where
   pub known : (o : Step) → Case s stack lies registers o → Known (stepNumber o)
   unfolding stepNumber
   known (Caller caller) h = inl refl
-  known (Unsound old number index) h = inr (inl (section-number s number index (h .2)))
+  known (Unsound old number index) h = inr (inl (verdict-number s number index (h .2)))
   known (Refused old number) h = rw (h .2) (inr (inr (refusal-number (h .1))))
 
   -- a refusal's number is neither 0 nor one of 1 to 15
@@ -119,7 +94,7 @@ module _ (s stack : List ℕ) (lies : Where) (registers : Registers) where
       → Given s stack lies registers refusal
   unfolding stepNumber
   tells refusal (Caller caller) h is = absurd (omega (arith, above-15 refusal))
-  tells refusal (Unsound old number index) h is = absurd (omega (arith, above-15 refusal, section-number s number index (h .2)))
+  tells refusal (Unsound old number index) h is = absurd (omega (arith, above-15 refusal, verdict-number s number index (h .2)))
   tells refusal (Refused old number) h is =
       let (same, other, number-is, given) = h in
       rw (by-number refusal other (sym is ∙ number-is)) given
@@ -135,9 +110,9 @@ module _ (s stack : List ℕ) (lies : Where) (registers : Registers) where
   rule-tells : (rule : Rule) (o : Step) → Case s stack lies registers o → stepNumber o ≡ numberOfRule rule
       → WindowFits stack lies × ((index : ℕ) × (verdict s ≡ verdict.Refused (numberOfRule rule) index))
   unfolding stepNumber
-  rule-tells rule (Caller caller) h is = absurd (omega (arith, rule-number rule))
+  rule-tells rule (Caller caller) h is = absurd (omega (arith, number-of-rule rule))
   rule-tells rule (Unsound old number index) h is = (h .1, (index, rw is at (h .2)))
-  rule-tells rule (Refused old number) h is = absurd (omega (arith, rule-number rule, above-15 (h .1), h .2))
+  rule-tells rule (Refused old number) h is = absurd (omega (arith, number-of-rule rule, above-15 (h .1), h .2))
 
   pub rule-exactly-when : (rule : Rule)
       → (stepNumber (stepIn s stack lies registers) ≡ numberOfRule rule)

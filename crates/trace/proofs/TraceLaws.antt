@@ -8,10 +8,10 @@ use native.Mathlib.Omega.{arith}
 use lib.ListN.{length}
 use Rattle.accept.specs.Checks.{verdict}
 use Rattle.accept.specs.declared.verdict.Verdict.the-variants as verdict
+use Rattle.accept.proofs.Exactly.{verdict-number}
 use Rattle.caller.specs.declared.registers.Registers.{Registers}
 use Rattle.caller.specs.declared.registers.Where.{Where}
 use Rattle.caller.proofs.Exactly.{checked-numbers}
-use Rattle.caller.proofs.NumberLaws.{section-number}
 use Rattle.trace.specs.Cases.{AtDoor, Opened, Follows, stepAt, Walks, Case}
 use Rattle.trace.specs.Trace.{Walk, inForce, ended, withMark, checkedWalk, walkIn, endingNumber}
 use Rattle.trace.specs.declared.answer.Ending.{Ending}
@@ -110,7 +110,7 @@ module _ (s stack : List ℕ) (lies : Where) (registers : Registers) (limit : �
   tell frames (Refused number) (inl h) = at-door (door-number stack lies limit buffer number (h .1) .0) (h .1)
   tell frames (Refused number) (inr h) =
       of-step (checked-numbers s (lies .section) stack lies (h .walk .follows .at (length frames)) number (h .walk .ends .2 .number-is)) frames h
-  tell frames (Unsound number index) h = of-section (section-number s number index (h .2)) (h .1) index (h .2)
+  tell frames (Unsound number index) h = of-section (verdict-number s number index (h .2)) (h .1) index (h .2)
 
   told : (number : ℕ) → endingNumber (whole .ending) ≡ number → Told number
   told number e = subst Told e (tell (whole .frames) (whole .ending) trace-case)
