@@ -88,7 +88,8 @@ unfoldable pub valuesOf : List ℕ → ℕ → Order → Registers → Spot → 
 valuesOf stack lies order registers ra fp =
     bothOf (valueOf stack lies order (registers .lr) ra) (valueOf stack lies order (registers .fp) fp)
 
--- ---- the checks in order, each with the old registers where it refuses
+-- ---- the checks, each with the old registers where it refuses. The last stands first here, since each names what follows it where
+-- it passes: `stepIn` tries 41 and 1 to 15, `stepOf` 21 to 23, `fromRow` 24, and so on down to 28.
 
 -- 28; "The caller has PC = RA, SP = CFA, the new FP, LR unchanged and no mark."
 unfoldable pub withValues : Registers → ℕ → Values → Step

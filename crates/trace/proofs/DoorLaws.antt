@@ -1,26 +1,59 @@
--- What is tried before the walk: the door, by its three rules, and then the section.
+-- What is tried before the walk: the door, test by test as the code makes them and by its three rules, and then the section.
 -- Assumes nothing.
-use mathlib.Core.Path.{_≡_, refl}
-use mathlib.Core.Bool.{Bool}
+use borrow.Author.Tests.{lt-ltb, le-ltb}
+use mathlib.Core.Path.{_≡_, refl, sym, _∙_, ap}
+use mathlib.Core.Bool.{Bool, true, false}
 use mathlib.Core.List.{List, [], _∷_}
 use mathlib.Core.Logic.{inl, inr, _↔_, Iff·trans, ⊎-elim}
-use Prim.Native.Nat.{ℕ, _+_, _*_, _^_, _≤_}
+use Prim.Native.Nat.{ℕ, _+_, _*_, _^_, _≤_, _<_}
 use native.Mathlib.Omega.{arith}
+use lib.Dec.{eqb}
 use lib.ListN.{length}
 use Rattle.numbers.specs.Address.{windowFits}
-use Rattle.accept.specs.Checks.{verdict}
+use Rattle.accept.specs.Checks.{firstBad, verdict}
 use Rattle.accept.specs.declared.verdict.Fault.{Fault}
 use Rattle.accept.specs.declared.verdict.Fault.the-variants.{Sound, Breaks}
 use Rattle.accept.specs.declared.verdict.Verdict.{Verdict}
 use Rattle.accept.specs.declared.verdict.Verdict.the-variants as verdict
 use Rattle.accept.proofs.Decides.{not-below, at-most, unless}
 use Rattle.accept.proofs.FaultLaws.{Table, end, line, FirstBroken, table-sound, table-breaks}
+use Rattle.lookup.proofs.CoveringLaws.{by-value}
 use Rattle.caller.specs.Cases.{Rule41}
 use Rattle.caller.specs.declared.registers.Registers.{Registers}
 use Rattle.caller.specs.declared.registers.Where.{Where}
 use Rattle.trace.specs.Cases.{LimitAbove, TooFewWords, AtDoor, Opened}
-use Rattle.trace.specs.Trace.{inForce, ended, withMark, checkedWalk, doorTests, doorFault, afterDoor, afterCheck, walkIn}
+use Rattle.trace.specs.Trace.{inForce, ended, withMark, checkedWalk, doorTests, doorFault, afterDoor, afterCheck, walkIn, allWords, over, tracedAs, traced, traceOf}
 use Rattle.trace.specs.declared.answer.Ending.the-variants.{Refused, Unsound}
+
+-- ---- the limit in force
+
+pub in-force-small : (limit : ℕ) → limit ≤ 256 → inForce limit ≤ 256
+unfolding inForce
+in-force-small limit small =
+    by-value (eqb limit 0) (λ e. rw (e, inForce) (omega arith)) (λ e. rw (e, inForce) small)
+
+-- ---- the door, test by test
+
+module _ (stack : List ℕ) (lies : Where) (limit words : ℕ) where
+  pub door-window : windowFits stack (lies .stack) ≡ false → Breaks 41 ≡ doorFault stack lies limit words
+  unfolding doorFault doorTests firstBad
+  door-window out = rw (out, firstBad)
+
+  module _ (fits : windowFits stack (lies .stack) ≡ true) where
+    pub door-limit : 256 < limit → Breaks 42 ≡ doorFault stack lies limit words
+    unfolding doorFault doorTests firstBad
+    door-limit high = rw (fits, firstBad) (rw (lt-ltb 256 limit high))
+
+    module _ (allowed : limit ≤ 256) where
+      pub door-words : words < 3 * inForce limit → Breaks 43 ≡ doorFault stack lies limit words
+      unfolding doorFault doorTests firstBad
+      door-words few = rw (fits, firstBad) (rw (le-ltb 256 limit allowed, firstBad) (rw (lt-ltb words (3 * inForce limit) few)))
+
+      pub door-open : 3 * inForce limit ≤ words → Sound ≡ doorFault stack lies limit words
+      unfolding doorFault doorTests firstBad
+      door-open enough = rw (fits, firstBad) (rw (le-ltb 256 limit allowed, firstBad) (rw (le-ltb words (3 * inForce limit) enough)))
+
+-- ---- the door, by its rules
 
 module _ (stack : List ℕ) (lies : Where) (limit : ℕ) (buffer : List ℕ) where
   abbrev tests : List (Bool × ℕ)
@@ -83,23 +116,9 @@ module _ (stack : List ℕ) (lies : Where) (limit : ℕ) (buffer : List ℕ) whe
   not-open number at opened =
       ⊎-elim (λ h. opened .in-memory (h .1)) (⊎-elim (λ h. opened .allowed (h .2)) (λ h. opened .room (h .3))) at
 
-  -- ---- what comes of it
-
-  module _ (s : List ℕ) (registers : Registers) where
-    pub shut-walk : (number : ℕ) → AtDoor stack lies limit buffer number
-        → walkIn s stack lies registers limit (length buffer) ≡ ended (Refused number)
-    unfolding walkIn afterDoor
-    shut-walk number shut = rw (door-shuts number .1 shut)
-
-    pub unsound-walk : Opened stack lies limit buffer → (number index : ℕ) → verdict s ≡ verdict.Refused number index
-        → walkIn s stack lies registers limit (length buffer) ≡ ended (Unsound number index)
-    unfolding walkIn afterDoor afterCheck
-    unsound-walk opened number index e = rw (door-opens .1 opened, e)
-
-    pub open-walk : Opened stack lies limit buffer → verdict s ≡ verdict.Accepted
-        → walkIn s stack lies registers limit (length buffer) ≡ checkedWalk s stack lies (inForce limit) (withMark registers)
-    unfolding walkIn afterDoor afterCheck
-    open-walk opened e = rw (door-opens .1 opened, e)
+  -- what a walk may rely on where nothing was refused
+  pub door-allows : doorFault stack lies limit (length buffer) ≡ Sound → (limit ≤ 256) × (3 * inForce limit ≤ length buffer)
+  door-allows open-door = let opened = door-opens .0 open-door in (omega (arith, opened .allowed), omega (arith, opened .room))
 
   -- the three ways
   pub data Way (s : List ℕ) : Type 0 where
@@ -117,3 +136,56 @@ module _ (stack : List ℕ) (lies : Where) (limit : ℕ) (buffer : List ℕ) whe
 
   pub way : (s : List ℕ) → Way s
   way s = way-by s (doorFault stack lies limit (length buffer)) refl
+
+-- ---- what comes of it
+
+module _ (s stack : List ℕ) (lies : Where) (registers : Registers) (limit : ℕ) (buffer : List ℕ) where
+  refused-walk : {number : ℕ} → doorFault stack lies limit (length buffer) ≡ Breaks number
+      → walkIn s stack lies registers limit (length buffer) ≡ ended (Refused number)
+  unfolding walkIn afterDoor
+  refused-walk broken = rw broken
+
+  pub shut-walk : (number : ℕ) → AtDoor stack lies limit buffer number
+      → walkIn s stack lies registers limit (length buffer) ≡ ended (Refused number)
+  shut-walk number at = refused-walk (door-shuts stack lies limit buffer number .1 at)
+
+  -- the same as the code answers it, with the buffer as it was
+  pub refused-at-door : {number : ℕ} → doorFault stack lies limit (length buffer) ≡ Breaks number
+      → tracedAs (record { ending = Refused number; frames = 0 }) buffer ≡ traceOf s stack lies registers limit buffer
+  unfolding traceOf traced ended allWords over
+  refused-at-door broken = ap (λ w. traced w buffer) (sym (refused-walk broken))
+
+  module _ (open-door : doorFault stack lies limit (length buffer) ≡ Sound) where
+    past-door : walkIn s stack lies registers limit (length buffer)
+        ≡ afterCheck (verdict s) (checkedWalk s stack lies (inForce limit) (withMark registers))
+    unfolding walkIn afterDoor
+    past-door = rw open-door
+
+    refused-section : {number index : ℕ} → verdict s ≡ verdict.Refused number index
+        → walkIn s stack lies registers limit (length buffer) ≡ ended (Unsound number index)
+    unfolding afterCheck
+    refused-section bad = past-door ∙ rw bad
+
+    accepted-section : verdict s ≡ verdict.Accepted
+        → walkIn s stack lies registers limit (length buffer) ≡ checkedWalk s stack lies (inForce limit) (withMark registers)
+    unfolding afterCheck
+    accepted-section good = past-door ∙ rw good
+
+    pub refused-by-section : {number index : ℕ} → verdict s ≡ verdict.Refused number index
+        → tracedAs (record { ending = Unsound number index; frames = 0 }) buffer ≡ traceOf s stack lies registers limit buffer
+    unfolding traceOf traced ended allWords over
+    refused-by-section bad = ap (λ w. traced w buffer) (sym (refused-section bad))
+
+    pub walked : verdict s ≡ verdict.Accepted
+        → traced (checkedWalk s stack lies (inForce limit) (withMark registers)) buffer ≡ traceOf s stack lies registers limit buffer
+    unfolding traceOf
+    walked good = ap (λ w. traced w buffer) (sym (accepted-section good))
+
+  module _ (opened : Opened stack lies limit buffer) where
+    pub unsound-walk : (number index : ℕ) → verdict s ≡ verdict.Refused number index
+        → walkIn s stack lies registers limit (length buffer) ≡ ended (Unsound number index)
+    unsound-walk number index bad = refused-section (door-opens stack lies limit buffer .1 opened) bad
+
+    pub open-walk : verdict s ≡ verdict.Accepted
+        → walkIn s stack lies registers limit (length buffer) ≡ checkedWalk s stack lies (inForce limit) (withMark registers)
+    open-walk good = accepted-section (door-opens stack lies limit buffer .1 opened) good

@@ -24,8 +24,7 @@ use Rattle.trace.specs.declared.answer.Ending.{Ending}
 use Rattle.trace.specs.declared.answer.Ending.the-variants.{Outermost, Full, Refused, Unsound}
 use Rattle.trace.specs.declared.answer.Frame.{Frame}
 use Rattle.trace.proofs.BufferLaws.{over-length, over-first, over-after, over-kept, all-length, all-at}
-use Rattle.trace.proofs.DoorLaws.{door-41, door-42, door-43, not-open}
-use Rattle.trace.proofs.OpeningLaws.{in-force-small}
+use Rattle.trace.proofs.DoorLaws.{in-force-small, door-41, door-42, door-43, not-open}
 use Rattle.trace.proofs.TraceLaws.{trace-case, case-whole, whole-follows, whole-room, whole-none, door-given, section-given, step-given, outermost-given, full-given}
 
 -- ---- "Limit 0 means 64; otherwise 1 to 256."

@@ -4,6 +4,5 @@ pub mod DoorLaws
 pub mod Exactly
 mod Examples
 pub mod GoingLaws
-pub mod OpeningLaws
 pub mod TraceLaws
 pub mod WalkLaws

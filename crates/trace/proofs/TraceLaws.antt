@@ -40,12 +40,12 @@ module _ (s stack : List ℕ) (lies : Where) (registers : Registers) (limit : �
 
   case-by : Way stack lies limit buffer s → Cased whole
   unfolding ended checkedWalk
-  case-by (shut number at) = subst Cased (sym (shut-walk stack lies limit buffer s registers number at)) (inl (refl, at))
+  case-by (shut number at) = subst Cased (sym (shut-walk s stack lies registers limit buffer number at)) (inl (refl, at))
   case-by (unsound opened number index e) =
-      subst Cased (sym (unsound-walk stack lies limit buffer s registers opened number index e)) (refl, opened, e)
+      subst Cased (sym (unsound-walk s stack lies registers limit buffer opened number index e)) (refl, opened, e)
   case-by (sound opened e) =
       let walk = walk-case (stepAt s stack lies) (inForce limit) (withMark registers) in
-      subst Cased (sym (open-walk stack lies limit buffer s registers opened e))
+      subst Cased (sym (open-walk s stack lies registers limit buffer opened e))
       (walks-case _ _ (record { opened = opened; accepted = e; walk = walk }))
 
   pub trace-case : Cased whole
@@ -54,7 +54,7 @@ module _ (s stack : List ℕ) (lies : Where) (registers : Registers) (limit : �
   walks-whole : (frames : List Frame) (ending : Ending) → Walked frames ending → whole ≡ record { frames = frames; ending = ending }
   unfolding checkedWalk
   walks-whole frames ending w =
-      open-walk stack lies limit buffer s registers (w .opened) (w .accepted)
+      open-walk s stack lies registers limit buffer (w .opened) (w .accepted)
       ∙ case-walk (stepAt s stack lies) (inForce limit) (withMark registers) frames ending (w .walk)
 
   none-whole : (frames : List Frame) (ending : Ending) → frames ≡ [] → whole ≡ ended ending → whole ≡ record { frames = frames; ending = ending }
@@ -66,10 +66,10 @@ module _ (s stack : List ℕ) (lies : Where) (registers : Registers) (limit : �
   case-whole frames Outermost h = walks-whole frames Outermost h
   case-whole frames Full h = walks-whole frames Full h
   case-whole frames (Refused number) (inl h) =
-      none-whole frames (Refused number) (h .0) (shut-walk stack lies limit buffer s registers number (h .1))
+      none-whole frames (Refused number) (h .0) (shut-walk s stack lies registers limit buffer number (h .1))
   case-whole frames (Refused number) (inr h) = walks-whole frames (Refused number) h
   case-whole frames (Unsound number index) h =
-      none-whole frames (Unsound number index) (h .0) (unsound-walk stack lies limit buffer s registers (h .1) number index (h .2))
+      none-whole frames (Unsound number index) (h .0) (unsound-walk s stack lies registers limit buffer (h .1) number index (h .2))
 
   -- ---- what every case has: no frames, or a walk
 

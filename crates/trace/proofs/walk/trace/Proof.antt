@@ -2,8 +2,9 @@
 -- Assumes nothing.
 use borrow.Author.Needs.{needs}
 use mathlib.Core.Path.{sym, _∙_}
+use denote.Ref.{now}
 use Rattle.accept.proofs.AcceptedLaws.{accepted-laws}
-use Rattle.trace.proofs.OpeningLaws.{in-force-small, door-allows, refused-at-door, refused-by-section, walked}
+use Rattle.trace.proofs.DoorLaws.{in-force-small, door-allows, refused-at-door, refused-by-section, walked}
 use Rattle.trace.proofs.walk.trace.Statement.{statement}
 use Rattle.trace.proofs.walk.trace.Tie as tie
 
@@ -16,7 +17,9 @@ walk-requires c κs =
     let told = layout .before in
     let checked = told .before .before in
     let opened = checked .before in
-    let allowed = door-allows _ _ _ _ (sym (opened .before .before .door-fault .ensures) ∙ opened .enum-told .given .1) in (
+    let asked = opened .before .before in
+    let start = asked .before .before .before .before in
+    let allowed = door-allows _ _ _ (now (start .args .buffer)) (sym (asked .door-fault .ensures) ∙ opened .enum-told .given .1) in (
       record { accepted = sym (checked .check .ensures) ∙ told .enum-told2 .given .1; layout-is = layout .layout-at .ensures },
       rw (c .before .in-force .ensures) (in-force-small _ (allowed .0)),
       rw (c .before .in-force .ensures) (allowed .1),
