@@ -1,0 +1,57 @@
+-- What the contracts of the four public functions give, and that any calls that keep them answer as ours do.
+-- Assumes nothing.
+use mathlib.Core.Path.{_≡_, refl}
+use mathlib.Core.List.{List, []}
+use Prim.Native.Nat.{ℕ}
+use denote.Ref.{RefT}
+use Rattle.promises.specs.Calls.{Calls, ours}
+use Rattle.promises.specs.Contracts.{Keeps, GivenBy}
+use Rattle.accept.specs.Checks.{verdict}
+use Rattle.lookup.specs.Answers.{lookupOf}
+use Rattle.caller.specs.Caller.{stepIn}
+use Rattle.caller.specs.declared.registers.Registers.{Registers}
+use Rattle.caller.specs.declared.registers.Where.{Where}
+use Rattle.trace.specs.Trace.{Trace, tracedAs, traceOf}
+
+pub contracts-give : GivenBy ours
+unfolding ours
+contracts-give =
+    record {
+      check = λ κs a z. (λ p. p, λ p. p);
+      lookup = λ κs a z. (λ p. p, λ p. p);
+      step = λ κs a z. (λ p. p, λ p. p);
+      trace = λ κs a z words. (λ p. p, λ p. p);
+    }
+
+pub contracts-kept : Keeps ours
+unfolding ours tracedAs
+contracts-kept =
+    record {
+      check = λ κs a. refl;
+      lookup = λ κs a. refl;
+      step = λ κs a. refl;
+      trace = λ κs a. refl;
+    }
+
+-- lent at an address
+lent : List ℕ → RefT (List ℕ)
+lent elements = record { ptr = (0, 0); name = 0; now = elements }
+
+module _ (calls : Calls) (keeps : Keeps calls) where
+  pub check-is : (s : List ℕ) → calls .check s ≡ verdict s
+  unfolding lent
+  check-is s = keeps .check ([], tt) (lent s, tt)
+
+  pub lookup-is : (s : List ℕ) (address pc : ℕ) → calls .lookup s address pc ≡ lookupOf s address pc
+  unfolding lent
+  lookup-is s address pc = keeps .lookup ([], tt) (lent s, (address, (pc, tt)))
+
+  pub step-is : (s stack : List ℕ) (lies : Where) (registers : Registers) → calls .step s stack lies registers ≡ stepIn s stack lies registers
+  unfolding lent
+  step-is s stack lies registers = keeps .step ([], ([], tt)) (registers, (lent s, (lent stack, (lies, tt))))
+
+  pub trace-is : (s stack : List ℕ) (lies : Where) (registers : Registers) (limit : ℕ) (old : List ℕ)
+      → calls .trace s stack lies registers limit old ≡ traceOf s stack lies registers limit old
+  unfolding lent tracedAs
+  trace-is s stack lies registers limit old =
+      keeps .trace ([], ([], ([], tt))) (lent s, (lent stack, (lies, (registers, (limit, (lent old, tt))))))

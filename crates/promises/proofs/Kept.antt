@@ -1,0 +1,32 @@
+-- The promises are kept: any four calls that keep the contracts of our public functions meet the three demands, since on every input
+-- they answer what those contracts name.
+-- Assumes nothing.
+use mathlib.Core.Path.{_≡_, sym, subst, fun-ext}
+use Rattle.promises.specs.Calls.{Calls, ours}
+use Rattle.promises.specs.Contracts.{Keeps}
+use Rattle.promises.specs.Promises.{Demands, Promised}
+use Rattle.promises.proofs.ContractLaws.{check-is, lookup-is, step-is, trace-is}
+use Rattle.promises.proofs.Demand1Met.{demand-1-ours}
+use Rattle.promises.proofs.Demand2Met.{demand-2-ours}
+use Rattle.promises.proofs.Demand3Met.{demand-3-ours}
+
+kept-are-ours : (calls : Calls) → Keeps calls → calls ≡ ours
+unfolding ours
+kept-are-ours calls keeps i =
+    record {
+      check = fun-ext (λ s. check-is calls keeps s) i;
+      lookup = fun-ext (λ s. fun-ext λ address. fun-ext λ pc. lookup-is calls keeps s address pc) i;
+      step = fun-ext (λ s. fun-ext λ stack. fun-ext λ lies. fun-ext λ registers. step-is calls keeps s stack lies registers) i;
+      trace =
+          fun-ext
+          (λ s.
+          fun-ext λ stack. fun-ext λ lies. fun-ext λ registers. fun-ext λ limit. fun-ext λ old.
+          trace-is calls keeps s stack lies registers limit old)
+          i;
+    }
+
+-- that of demand k is `demands-met calls keeps .demand-k`
+pub demands-met : Promised
+demands-met calls keeps =
+    subst Demands (sym (kept-are-ours calls keeps))
+    (record { demand-1 = demand-1-ours; demand-2 = demand-2-ours; demand-3 = demand-3-ours })

@@ -1,0 +1,12 @@
+pub mod ContractLaws
+pub mod Demand1Met
+pub mod Demand2Met
+pub mod Demand3Met
+pub mod GivenByTrace
+pub mod GivenExactly
+pub mod Kept
+pub mod NameLaws
+pub mod OrderLaws
+pub mod SameListings
+pub mod SortedLaws
+pub mod TableHolds

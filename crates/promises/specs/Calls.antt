@@ -1,0 +1,27 @@
+-- Any four calls, whatever they answer: functions from what is lent to a reply and, for a trace, to the words left in the buffer as
+-- well. Each demand is a predicate of such calls, so that it can be met and can be broken.
+use mathlib.Core.List.{List}
+use Prim.Native.Nat.{ℕ}
+use Rattle.accept.specs.Checks.{verdict}
+use Rattle.accept.specs.declared.verdict.Verdict.{Verdict}
+use Rattle.lookup.specs.Answers.{lookupOf}
+use Rattle.lookup.specs.declared.answer.Answer.{Answer}
+use Rattle.caller.specs.Caller.{stepIn}
+use Rattle.caller.specs.declared.registers.Registers.{Registers}
+use Rattle.caller.specs.declared.registers.Step.{Step}
+use Rattle.caller.specs.declared.registers.Where.{Where}
+use Rattle.trace.specs.Trace.{Trace, traceOf}
+
+pub record Calls : Type 0 where
+  -- of a section
+  pub check : List ℕ → Verdict
+  -- of a section, its address and a PC
+  pub lookup : List ℕ → ℕ → ℕ → Answer
+  -- of a section, a stack window, where both lie, and registers
+  pub step : List ℕ → List ℕ → Where → Registers → Step
+  -- of these, a limit and what the buffer holds
+  pub trace : List ℕ → List ℕ → Where → Registers → ℕ → List ℕ → Trace
+
+-- what the contracts of our four functions name
+unfoldable pub ours : Calls
+ours = record { check = verdict; lookup = lookupOf; step = stepIn; trace = traceOf }

@@ -1,0 +1,90 @@
+-- Demand 1: on anything that is handed in, "each refusal has a number, is given exactly under its rule, and leaves the buffer as the
+-- rules say." A predicate of any four calls; when each number is due stands in Refusals.
+use mathlib.Core.Path.{_≡_}
+use mathlib.Core.List.{List}
+use mathlib.Core.Logic.{_↔_}
+use Prim.Native.Nat.{ℕ, _*_}
+use lib.ListN.{length, drop}
+use Rattle.accept.specs.Checks.{verdictNumber}
+use Rattle.accept.specs.Given.{Rule, numberOfRule, Given}
+use Rattle.accept.specs.declared.verdict.Verdict.the-variants as verdict
+use Rattle.lookup.specs.Answers.{outcomeNumber}
+use Rattle.lookup.specs.declared.answer.Outcome.the-variants as outcome
+use Rattle.caller.specs.Caller.{stepNumber, stepRegisters}
+use Rattle.caller.specs.Cases.{WindowFits}
+use Rattle.caller.specs.declared.registers.Registers.{Registers}
+use Rattle.caller.specs.declared.registers.Step.the-variants as step
+use Rattle.caller.specs.declared.registers.Where.{Where}
+use Rattle.trace.specs.Cases.{Opened}
+use Rattle.trace.specs.Trace.{Trace, endingNumber}
+use Rattle.trace.specs.declared.answer.Ending.the-variants as ending
+use Rattle.promises.specs.Calls.{Calls}
+use Rattle.promises.specs.Refusals.{Number, unsound, noFunction, dispute, noRow, signed, cfaOutside, cfaLow, raLost, wordOutside, outermost, full, window, limitAbove, tooFewWords, numberOf, Numbered, OnCheck, OnLookup, OnStep, OnTrace}
+
+-- ---- one call by itself
+
+-- "A refusal returns its number and the entry's index, 0 for 1 to 8 and 15."
+pub record CheckRefuses (calls : Calls) (s : List ℕ) : Type 0 where
+  pub given : (name : Number) → (verdictNumber (calls .check s) ≡ numberOf name) ↔ OnCheck s name
+  pub known : Numbered (verdictNumber (calls .check s))
+  pub carries : (rule : Rule) (index : ℕ) → (calls .check s ≡ verdict.Refused (numberOfRule rule) index) ↔ Given s rule index
+
+-- "Section refusals carry 0.": no entry was compared
+pub record LookupRefuses (calls : Calls) (s : List ℕ) (address pc : ℕ) : Type 0 where
+  pub given : (name : Number) → (outcomeNumber (calls .lookup s address pc .outcome) ≡ numberOf name) ↔ OnLookup s address pc name
+  pub known : Numbered (outcomeNumber (calls .lookup s address pc .outcome))
+  pub carries : (rule : Rule) (index : ℕ)
+      → (calls .lookup s address pc .outcome ≡ outcome.Unsound (numberOfRule rule) index) ↔ Given s rule index
+  pub uncounted : (rule : Rule) (index : ℕ) → Given s rule index → calls .lookup s address pc .compared ≡ 0
+
+-- "a refusal hands back the old ones with its number, and for 1 to 15 the entry's index"
+pub record StepRefuses (calls : Calls) (s stack : List ℕ) (lies : Where) (registers : Registers) : Type 0 where
+  pub given : (name : Number) → (stepNumber (calls .step s stack lies registers) ≡ numberOf name) ↔ OnStep s stack lies registers name
+  pub known : Numbered (stepNumber (calls .step s stack lies registers))
+  pub carries : (rule : Rule) (index : ℕ)
+      → (calls .step s stack lies registers ≡ step.Unsound registers (numberOfRule rule) index) ↔ (WindowFits stack lies × Given s rule index)
+  pub old : ¬ (stepNumber (calls .step s stack lies registers) ≡ 0) → stepRegisters (calls .step s stack lies registers) ≡ registers
+
+-- the numbers that a trace has "Before anything else": 41 to 43, "then 1 to 15"
+abbrev pub BeforeTheWalk : Number → Type 0
+BeforeTheWalk (unsound rule) = Unit {0}
+BeforeTheWalk noFunction = ⊥
+BeforeTheWalk dispute = ⊥
+BeforeTheWalk noRow = ⊥
+BeforeTheWalk signed = ⊥
+BeforeTheWalk cfaOutside = ⊥
+BeforeTheWalk cfaLow = ⊥
+BeforeTheWalk raLost = ⊥
+BeforeTheWalk wordOutside = ⊥
+BeforeTheWalk outermost = ⊥
+BeforeTheWalk full = ⊥
+BeforeTheWalk window = Unit {0}
+BeforeTheWalk limitAbove = Unit {0}
+BeforeTheWalk tooFewWords = Unit {0}
+
+-- the buffer as the rules say
+pub record Leaves (t : Trace) (old : List ℕ) : Type 0 where
+  -- "These write nothing and answer 0 frames with their number"
+  pub nothing : (name : Number) → BeforeTheWalk name → endingNumber (t .answer .ending) ≡ numberOf name → (t .answer .frames ≡ 0) × (t .words ≡ old)
+  -- "Words after the written frames keep what they held.", three words to a frame
+  pub kept : drop (3 * t .answer .frames) (t .words) ≡ drop (3 * t .answer .frames) old
+  pub as-many : length (t .words) ≡ length old
+
+-- "and for 1 to 15 the entry's index"
+pub record TraceRefuses (calls : Calls) (s stack : List ℕ) (lies : Where) (registers : Registers) (limit : ℕ) (old : List ℕ) : Type 0 where
+  pub given : (name : Number)
+      → (endingNumber (calls .trace s stack lies registers limit old .answer .ending) ≡ numberOf name) ↔ OnTrace s stack lies registers limit old name
+  pub known : (name : Number) × (endingNumber (calls .trace s stack lies registers limit old .answer .ending) ≡ numberOf name)
+  pub carries : (rule : Rule) (index : ℕ)
+      → (calls .trace s stack lies registers limit old .answer .ending ≡ ending.Unsound (numberOfRule rule) index)
+      ↔ (Opened stack lies limit old × Given s rule index)
+  pub leaves : Leaves (calls .trace s stack lies registers limit old) old
+
+-- ---- all four, on every input
+
+pub record Demand1 (calls : Calls) : Type 0 where
+  pub check : (s : List ℕ) → CheckRefuses calls s
+  pub lookup : (s : List ℕ) (address pc : ℕ) → LookupRefuses calls s address pc
+  pub step : (s stack : List ℕ) (lies : Where) (registers : Registers) → StepRefuses calls s stack lies registers
+  pub trace : (s stack : List ℕ) (lies : Where) (registers : Registers) (limit : ℕ) (old : List ℕ)
+      → TraceRefuses calls s stack lies registers limit old

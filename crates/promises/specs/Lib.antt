@@ -1,0 +1,12 @@
+pub mod Calls
+pub mod Contracts
+pub mod Deciding
+pub mod Demand1
+pub mod Demand2
+pub mod Demand3
+pub mod Determined
+pub mod Listings
+pub mod Promises
+pub mod Refusals
+pub mod SameFunctions
+pub mod Table

@@ -1,0 +1,158 @@
+-- Every number of document 01 in one table: what it is called, and when each of the four calls gives it. The rules are the layers'
+-- own; a number that a call never gives is given under no condition.
+use mathlib.Core.Path.{_≡_}
+use mathlib.Core.List.{List, [], _∷_}
+use mathlib.Core.Logic.{_⊎_}
+use Prim.Native.Nat.{ℕ}
+use lib.IntN.{ℤ}
+use Rattle.numbers.specs.Held.{distance}
+use Rattle.accept.specs.Given.{Rule, numberOfRule, Given}
+use Rattle.accept.specs.Rules.{Obeys}
+use Rattle.lookup.specs.Cases.{NoneCovers, SomeTwoCover, NoRowCase}
+use Rattle.caller.specs.Cases as step
+use Rattle.caller.specs.Cases.{Rule41, WindowFits}
+use Rattle.caller.specs.declared.registers.Registers.{Registers}
+use Rattle.caller.specs.declared.registers.Where.{Where}
+use Rattle.trace.specs.Cases.{LimitAbove, TooFewWords, Opened, Walks}
+use Rattle.trace.specs.declared.answer.Ending.the-variants.{Outermost, Full, Refused}
+use Rattle.trace.specs.declared.answer.Frame.{Frame}
+
+-- the numbers by name; 1 to 15 have the names of accept's rules
+pub data Number : Type 0 where
+  unsound : Rule → Number
+  noFunction : Number
+  dispute : Number
+  noRow : Number
+  signed : Number
+  cfaOutside : Number
+  cfaLow : Number
+  raLost : Number
+  wordOutside : Number
+  outermost : Number
+  full : Number
+  window : Number
+  limitAbove : Number
+  tooFewWords : Number
+
+unfoldable pub numberOf : Number → ℕ
+numberOf (unsound rule) = numberOfRule rule
+numberOf noFunction = 21
+numberOf dispute = 22
+numberOf noRow = 23
+numberOf signed = 24
+numberOf cfaOutside = 25
+numberOf cfaLow = 26
+numberOf raLost = 27
+numberOf wordOutside = 28
+numberOf outermost = 30
+numberOf full = 31
+numberOf window = 41
+numberOf limitAbove = 42
+numberOf tooFewWords = 43
+
+-- 0, which stands for accepted, found or a caller, or one of these
+abbrev pub Numbered : ℕ → Type 0
+Numbered number = (number ≡ 0) ⊎ ((name : Number) × (number ≡ numberOf name))
+
+-- ---- "Section checks, in this order"
+
+-- 1 to 15: the rule is the first broken one, in the entry with some index
+abbrev pub FirstBroken : List ℕ → Rule → Type 0
+FirstBroken s rule = (index : ℕ) × Given s rule index
+
+abbrev pub OnCheck : List ℕ → Number → Type 0
+OnCheck s (unsound rule) = FirstBroken s rule
+OnCheck s noFunction = ⊥
+OnCheck s dispute = ⊥
+OnCheck s noRow = ⊥
+OnCheck s signed = ⊥
+OnCheck s cfaOutside = ⊥
+OnCheck s cfaLow = ⊥
+OnCheck s raLost = ⊥
+OnCheck s wordOutside = ⊥
+OnCheck s outermost = ⊥
+OnCheck s full = ⊥
+OnCheck s window = ⊥
+OnCheck s limitAbove = ⊥
+OnCheck s tooFewWords = ⊥
+
+-- ---- "Finding the row"
+
+module _ (s : List ℕ) (address pc : ℕ) where
+  -- "PC minus section address"
+  abbrev d : ℤ
+  d = distance address pc
+
+  abbrev pub OnLookup : Number → Type 0
+  OnLookup (unsound rule) = FirstBroken s rule
+  -- "21: no function covers"
+  OnLookup noFunction = Obeys s × NoneCovers s d
+  -- "22: two or more do"
+  OnLookup dispute = Obeys s × SomeTwoCover s d
+  -- "23 when there is none"
+  OnLookup noRow = Obeys s × ((i : ℕ) × NoRowCase s d i)
+  OnLookup signed = ⊥
+  OnLookup cfaOutside = ⊥
+  OnLookup cfaLow = ⊥
+  OnLookup raLost = ⊥
+  OnLookup wordOutside = ⊥
+  OnLookup outermost = ⊥
+  OnLookup full = ⊥
+  OnLookup window = ⊥
+  OnLookup limitAbove = ⊥
+  OnLookup tooFewWords = ⊥
+
+-- ---- "One caller"
+
+module _ (s stack : List ℕ) (lies : Where) (registers : Registers) where
+  -- "PC minus section address"
+  abbrev dAt : ℤ
+  dAt = distance (lies .section) (registers .pc)
+
+  abbrev pub OnStep : Number → Type 0
+  OnStep (unsound rule) = WindowFits stack lies × FirstBroken s rule
+  OnStep noFunction = WindowFits stack lies × Obeys s × NoneCovers s dAt
+  OnStep dispute = WindowFits stack lies × Obeys s × SomeTwoCover s dAt
+  OnStep noRow = WindowFits stack lies × Obeys s × ((i : ℕ) × NoRowCase s dAt i)
+  -- "24: AArch64 and the row's signed bit is set."
+  OnStep signed = step.Given s stack lies registers step.signed
+  -- "25 when outside 0 to 2^64 - 1."
+  OnStep cfaOutside = step.Given s stack lies registers step.cfaOutside
+  -- "26: CFA below SP, or equal to SP without the first-frame mark."
+  OnStep cfaLow = step.Given s stack lies registers step.cfaLow
+  -- "27: AArch64, count 1, without the mark."
+  OnStep raLost = step.Given s stack lies registers step.raLost
+  -- "28: a needed word (RA first) is not wholly inside the stack window."
+  OnStep wordOutside = step.Given s stack lies registers step.wordOutside
+  OnStep outermost = ⊥
+  OnStep full = ⊥
+  -- "41: stack address plus length above 2^64."
+  OnStep window = Rule41 stack lies
+  OnStep limitAbove = ⊥
+  OnStep tooFewWords = ⊥
+
+-- ---- "A trace"
+
+module _ (s stack : List ℕ) (lies : Where) (registers : Registers) (limit : ℕ) (buffer : List ℕ) where
+  -- "A refused step ends it with its own number, 21 to 28."
+  abbrev StepRefused : ℕ → Type 0
+  StepRefused number = (frames : List Frame) × Walks s stack lies registers limit buffer frames (Refused number)
+
+  abbrev pub OnTrace : Number → Type 0
+  OnTrace (unsound rule) = Opened stack lies limit buffer × FirstBroken s rule
+  OnTrace noFunction = StepRefused 21
+  OnTrace dispute = StepRefused 22
+  OnTrace noRow = StepRefused 23
+  OnTrace signed = StepRefused 24
+  OnTrace cfaOutside = StepRefused 25
+  OnTrace cfaLow = StepRefused 26
+  OnTrace raLost = StepRefused 27
+  OnTrace wordOutside = StepRefused 28
+  -- "RA 0 ends it with 30 (outermost), also in the last allowed frame"
+  OnTrace outermost = (frames : List Frame) × Walks s stack lies registers limit buffer frames Outermost
+  -- "otherwise a full limit ends it with 31."
+  OnTrace full = (frames : List Frame) × Walks s stack lies registers limit buffer frames Full
+  -- "41 stack address plus length above 2^64; 42 limit above 256; 43 fewer than 3 words per limit frame"
+  OnTrace window = Rule41 stack lies
+  OnTrace limitAbove = (¬ Rule41 stack lies) × LimitAbove limit
+  OnTrace tooFewWords = (¬ Rule41 stack lies) × (¬ LimitAbove limit) × TooFewWords limit buffer
