@@ -3,15 +3,15 @@
 use mathlib.Core.Path.{_≡_, refl}
 use mathlib.Core.List.{List, []}
 use Prim.Native.Nat.{ℕ}
-use denote.Ref.{RefT}
-use Rattle.promises.specs.Calls.{Calls, ours}
-use Rattle.promises.specs.Contracts.{Keeps, GivenBy}
 use Rattle.accept.specs.Checks.{verdict}
 use Rattle.lookup.specs.Answers.{lookupOf}
 use Rattle.caller.specs.Caller.{stepIn}
 use Rattle.caller.specs.declared.registers.Registers.{Registers}
 use Rattle.caller.specs.declared.registers.Where.{Where}
-use Rattle.trace.specs.Trace.{Trace, tracedAs, traceOf}
+use Rattle.trace.specs.Trace.{tracedAs, traceOf}
+use Rattle.promises.specs.Calls.{Calls, ours}
+use Rattle.promises.specs.Contracts.{Keeps, GivenBy}
+use Rattle.promises.specs.Lent.{Lies, lent}
 
 pub contracts-give : GivenBy ours
 unfolding ours
@@ -33,25 +33,22 @@ contracts-kept =
       trace = λ κs a. refl;
     }
 
--- lent at an address
-lent : List ℕ → RefT (List ℕ)
-lent elements = record { ptr = (0, 0); name = 0; now = elements }
+-- some place, since a contract holds wherever what is lent lies
+somewhere : Lies
+somewhere = record { place = (0, 0); name = 0 }
 
 module _ (calls : Calls) (keeps : Keeps calls) where
   pub check-is : (s : List ℕ) → calls .check s ≡ verdict s
-  unfolding lent
-  check-is s = keeps .check ([], tt) (lent s, tt)
+  check-is s = keeps .check ([], tt) (lent somewhere s, tt)
 
   pub lookup-is : (s : List ℕ) (address pc : ℕ) → calls .lookup s address pc ≡ lookupOf s address pc
-  unfolding lent
-  lookup-is s address pc = keeps .lookup ([], tt) (lent s, (address, (pc, tt)))
+  lookup-is s address pc = keeps .lookup ([], tt) (lent somewhere s, (address, (pc, tt)))
 
   pub step-is : (s stack : List ℕ) (lies : Where) (registers : Registers) → calls .step s stack lies registers ≡ stepIn s stack lies registers
-  unfolding lent
-  step-is s stack lies registers = keeps .step ([], ([], tt)) (registers, (lent s, (lent stack, (lies, tt))))
+  step-is s stack lies registers = keeps .step ([], ([], tt)) (registers, (lent somewhere s, (lent somewhere stack, (lies, tt))))
 
   pub trace-is : (s stack : List ℕ) (lies : Where) (registers : Registers) (limit : ℕ) (old : List ℕ)
       → calls .trace s stack lies registers limit old ≡ traceOf s stack lies registers limit old
-  unfolding lent tracedAs
+  unfolding tracedAs
   trace-is s stack lies registers limit old =
-      keeps .trace ([], ([], ([], tt))) (lent s, (lent stack, (lies, (registers, (limit, (lent old, tt))))))
+      keeps .trace ([], ([], ([], tt))) (lent somewhere s, (lent somewhere stack, (lies, (registers, (limit, (lent somewhere old, tt))))))

@@ -16,9 +16,9 @@ use Rattle.trace.proofs.Exactly.{some-case, case-answers}
 use Rattle.promises.specs.Calls.{ours}
 use Rattle.promises.specs.Demand2.{CallerInBytes, leftBy, Traces, Demand2}
 
-in-bytes : (s stack : List ℕ) (lies : Where) (registers caller : Registers) → stepIn s stack lies registers ≡ Caller caller
+caller-bytes : (s stack : List ℕ) (lies : Where) (registers caller : Registers) → stepIn s stack lies registers ≡ Caller caller
     → CallerInBytes s stack lies registers caller
-in-bytes s stack lies registers caller is =
+caller-bytes s stack lies registers caller is =
     let (row, i, k, found, cfa, ra, fp) = caller-in-bytes s stack lies registers caller is in
     record { row = row; function = i; number = k; found = found; cfa = cfa; ra = ra; fp = fp }
 
@@ -42,6 +42,6 @@ demand-2-ours =
       accepts = accepted-exactly-when;
       finds = λ s obeys address pc o. answer-exactly-when s (accepted-exactly-when s .1 obeys) address pc o;
       steps = caller-exactly-when;
-      in-bytes = in-bytes;
+      in-bytes = caller-bytes;
       traces = trace-traces;
     }

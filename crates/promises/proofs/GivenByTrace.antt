@@ -21,8 +21,8 @@ use Rattle.trace.specs.declared.answer.Ending.{Ending}
 use Rattle.trace.specs.declared.answer.Ending.the-variants.{Outermost, Full, Refused, Unsound}
 use Rattle.trace.specs.declared.answer.Frame.{Frame}
 use Rattle.trace.proofs.Exactly as traces
-use Rattle.promises.specs.Refusals.{Number, unsound, noFunction, dispute, noRow, signed, cfaOutside, cfaLow, raLost, wordOutside, outermost, full, window, limitAbove, tooFewWords, numberOf, OnTrace}
-use Rattle.promises.proofs.NameLaws.{due-exactly-when}
+use Rattle.promises.specs.Refusals.{Cause, unsound, noFunction, dispute, noRow, signed, cfaOutside, cfaLow, raLost, wordOutside, outermost, full, window, limitAbove, tooFewWords, numberOfCause, OnTrace}
+use Rattle.promises.proofs.CauseLaws.{due-exactly-when}
 
 -- a step that is refused in a checked section has one of 21 to 28
 refused-between : (registers : Registers) (number : ℕ) (o : Step) → Checked registers o → RefusedWith o number → (21 ≤ number) × (number ≤ 28)
@@ -32,30 +32,30 @@ refused-between registers number (step.Unsound old n index) h refused = absurd h
 refused-between registers number (step.Refused old n) h refused = rw (← refused .number-is) (h .1, h .2)
 
 module _ (s stack : List ℕ) (lies : Where) (registers : Registers) (limit : ℕ) (old : List ℕ) where
-  abbrev ended : ℕ
-  ended = endingNumber (traceOf s stack lies registers limit old .answer .ending)
+  abbrev endedWith : ℕ
+  endedWith = endingNumber (traceOf s stack lies registers limit old .answer .ending)
 
-  abbrev On : Number → Type 0
+  abbrev On : Cause → Type 0
   On = OnTrace s stack lies registers limit old
 
   -- "A refused step ends it with its own number, 21 to 28."
-  step-makes : (number : ℕ) → 21 ≤ number → number ≤ 28 → (frames : List Frame) × Walks s stack lies registers limit old frames (Refused number)
-      → ended ≡ number
-  step-makes number least most on = traces.refused-exactly-when s stack lies registers limit old number least most .1 on
+  refusal-makes : (number : ℕ) → 21 ≤ number → number ≤ 28 → (frames : List Frame) × Walks s stack lies registers limit old frames (Refused number)
+      → endedWith ≡ number
+  refusal-makes number least most on = traces.refused-exactly-when s stack lies registers limit old number least most .1 on
 
-  trace-makes : (name : Number) → On name → ended ≡ numberOf name
-  unfolding numberOf
+  trace-makes : (cause : Cause) → On cause → endedWith ≡ numberOfCause cause
+  unfolding numberOfCause
   trace-makes (unsound rule) (opened, (index, given)) =
       traces.number-1-to-15-exactly-when s stack lies registers limit old (numberOfRule rule) (number-of-rule rule .0) (number-of-rule rule .1) .1
       (opened, (index, given-exactly-when s rule index .1 given))
-  trace-makes noFunction on = step-makes 21 (omega arith) (omega arith) on
-  trace-makes dispute on = step-makes 22 (omega arith) (omega arith) on
-  trace-makes noRow on = step-makes 23 (omega arith) (omega arith) on
-  trace-makes signed on = step-makes 24 (omega arith) (omega arith) on
-  trace-makes cfaOutside on = step-makes 25 (omega arith) (omega arith) on
-  trace-makes cfaLow on = step-makes 26 (omega arith) (omega arith) on
-  trace-makes raLost on = step-makes 27 (omega arith) (omega arith) on
-  trace-makes wordOutside on = step-makes 28 (omega arith) (omega arith) on
+  trace-makes noFunction on = refusal-makes 21 (omega arith) (omega arith) on
+  trace-makes dispute on = refusal-makes 22 (omega arith) (omega arith) on
+  trace-makes noRow on = refusal-makes 23 (omega arith) (omega arith) on
+  trace-makes signed on = refusal-makes 24 (omega arith) (omega arith) on
+  trace-makes cfaOutside on = refusal-makes 25 (omega arith) (omega arith) on
+  trace-makes cfaLow on = refusal-makes 26 (omega arith) (omega arith) on
+  trace-makes raLost on = refusal-makes 27 (omega arith) (omega arith) on
+  trace-makes wordOutside on = refusal-makes 28 (omega arith) (omega arith) on
   trace-makes outermost on = traces.number-30-exactly-when s stack lies registers limit old .1 on
   trace-makes full on = traces.number-31-exactly-when s stack lies registers limit old .1 on
   trace-makes window on = traces.number-41-exactly-when s stack lies registers limit old .1 on
@@ -65,7 +65,7 @@ module _ (s stack : List ℕ) (lies : Where) (registers : Registers) (limit : �
   -- ---- one number is due in every trace
 
   abbrev SomeDue : Type 0
-  SomeDue = (name : Number) × On name
+  SomeDue = (cause : Cause) × On cause
 
   -- the refusals of a step, from 21 on
   refused-from-21 : (k : ℕ) → k ≤ 7 → (frames : List Frame) → Walks s stack lies registers limit old frames (Refused (21 + k)) → SomeDue
@@ -107,8 +107,8 @@ module _ (s stack : List ℕ) (lies : Where) (registers : Registers) (limit : �
       let walk : Walk = walkIn s stack lies registers limit (length old) in
       case-due (walk .frames) (walk .ending) (traces.some-case s stack lies registers limit old)
 
-  pub trace-number : (name : Number) × (ended ≡ numberOf name)
-  trace-number = let (name, on) = trace-due in (name, trace-makes name on)
+  pub trace-number : (cause : Cause) × (endedWith ≡ numberOfCause cause)
+  trace-number = let (cause, on) = trace-due in (cause, trace-makes cause on)
 
-  pub trace-given-exactly : (name : Number) → (ended ≡ numberOf name) ↔ On name
-  trace-given-exactly = due-exactly-when ended On (let (name, on) = trace-due in inr (name, trace-makes name on, on)) trace-makes
+  pub trace-given-exactly : (cause : Cause) → (endedWith ≡ numberOfCause cause) ↔ On cause
+  trace-given-exactly = due-exactly-when endedWith On (let (cause, on) = trace-due in inr (cause, trace-makes cause on, on)) trace-makes

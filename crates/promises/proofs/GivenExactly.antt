@@ -1,19 +1,15 @@
--- Every number of document 01, given exactly when it is due: `check-given`, `lookup-given`, `step-given-exactly` and
--- `trace-given-exactly`, over every name at once, by the theorems of the layers.
+-- Every number of document 01, given by a check, a lookup and a step exactly when it is due: `check-given`, `lookup-given` and
+-- `step-given-exactly`, each over every cause at once, by the theorems of the layers. For a trace see GivenByTrace.
 -- Assumes nothing.
-use mathlib.Core.Path.{_≡_, refl, sym, _∙_, ap}
+use mathlib.Core.Path.{_≡_, refl, _∙_, ap}
 use mathlib.Core.List.{List}
-use mathlib.Core.Logic.{_⊎_, inl, inr, _↔_, ⊎-elim}
-use Prim.Native.Nat.{ℕ, _≤_}
-use native.Mathlib.Omega.{arith}
-use lib.ListN.{length}
+use mathlib.Core.Logic.{inl, inr, _↔_, ⊎-elim}
+use Prim.Native.Nat.{ℕ}
 use Rattle.numbers.specs.Held.{distance}
-use Rattle.section.specs.Meaning.{shapeOf}
 use Rattle.accept.specs.Checks.{verdict, verdictNumber}
-use Rattle.accept.specs.Given.{Rule, numberOfRule, Given}
+use Rattle.accept.specs.Given.{numberOfRule}
 use Rattle.accept.specs.Rules.{Obeys}
-use Rattle.accept.specs.declared.verdict.Verdict.the-variants as verdict
-use Rattle.accept.proofs.Exactly.{accepted-exactly-when, given-exactly-when, refused-by-a-rule, obeys-or-refusal, number-of-rule}
+use Rattle.accept.proofs.Exactly.{accepted-exactly-when, given-exactly-when, refused-by-a-rule, obeys-or-refusal}
 use Rattle.lookup.specs.Answers.{lookupOf, outcomeNumber}
 use Rattle.lookup.specs.Cases as lookup
 use Rattle.lookup.specs.declared.answer.Outcome.{Outcome}
@@ -26,13 +22,13 @@ use Rattle.caller.specs.declared.registers.Step.{Step}
 use Rattle.caller.specs.declared.registers.Step.the-variants as step
 use Rattle.caller.specs.declared.registers.Where.{Where}
 use Rattle.caller.proofs.Exactly as steps
-use Rattle.promises.specs.Refusals.{Number, unsound, noFunction, dispute, noRow, signed, cfaOutside, cfaLow, raLost, wordOutside, outermost, full, window, limitAbove, tooFewWords, numberOf, OnCheck, OnLookup, OnStep, OnTrace}
-use Rattle.promises.proofs.NameLaws.{Due, due-exactly-when}
+use Rattle.promises.specs.Refusals.{Cause, unsound, noFunction, dispute, noRow, signed, cfaOutside, cfaLow, raLost, wordOutside, outermost, full, window, limitAbove, tooFewWords, numberOfCause, OnCheck, OnLookup, OnStep}
+use Rattle.promises.proofs.CauseLaws.{Due, due-exactly-when}
 
 -- ---- a check
 
-check-makes : (s : List ℕ) (name : Number) → OnCheck s name → verdictNumber (verdict s) ≡ numberOf name
-unfolding verdictNumber numberOf
+check-makes : (s : List ℕ) (cause : Cause) → OnCheck s cause → verdictNumber (verdict s) ≡ numberOfCause cause
+unfolding verdictNumber numberOfCause
 check-makes s (unsound rule) (index, given) = ap verdictNumber (given-exactly-when s rule index .1 given)
 check-makes s noFunction on = absurd on
 check-makes s dispute on = absurd on
@@ -56,7 +52,7 @@ check-due s =
     (λ refusal. let (rule, index, given) = refusal in inr (unsound rule, check-makes s (unsound rule) (index, given), (index, given)))
     (obeys-or-refusal s)
 
-pub check-given : (s : List ℕ) (name : Number) → (verdictNumber (verdict s) ≡ numberOf name) ↔ OnCheck s name
+pub check-given : (s : List ℕ) (cause : Cause) → (verdictNumber (verdict s) ≡ numberOfCause cause) ↔ OnCheck s cause
 check-given s = due-exactly-when (verdictNumber (verdict s)) (OnCheck s) (check-due s) (check-makes s)
 
 -- ---- a lookup
@@ -65,8 +61,8 @@ module _ (s : List ℕ) (address pc : ℕ) where
   abbrev looked : ℕ
   looked = outcomeNumber (lookupOf s address pc .outcome)
 
-  lookup-makes : (name : Number) → OnLookup s address pc name → looked ≡ numberOf name
-  unfolding outcomeNumber numberOf
+  lookup-makes : (cause : Cause) → OnLookup s address pc cause → looked ≡ numberOfCause cause
+  unfolding outcomeNumber numberOfCause
   lookup-makes (unsound rule) (index, given) =
       ap outcomeNumber (looks.unsound-exactly-when s address pc (numberOfRule rule) index .1 (given-exactly-when s rule index .1 given))
   lookup-makes noFunction (obeys, none) = looks.number-21-exactly-when s (accepted-exactly-when s .1 obeys) address pc .1 none
@@ -85,7 +81,7 @@ module _ (s : List ℕ) (address pc : ℕ) where
 
   -- by the outcome, on an accepted section
   outcome-due : Obeys s → (o : Outcome) → lookup.Case s (distance address pc) o → Due (outcomeNumber o) (OnLookup s address pc)
-  unfolding outcomeNumber numberOf
+  unfolding outcomeNumber numberOfCause
   outcome-due obeys (Found row i k) case = inl refl
   outcome-due obeys (Unsound number index) case = absurd case
   outcome-due obeys NoFunction case = inr (noFunction, refl, (obeys, case))
@@ -101,7 +97,7 @@ module _ (s : List ℕ) (address pc : ℕ) where
       (λ refusal. let (rule, index, given) = refusal in inr (unsound rule, lookup-makes (unsound rule) (index, given), (index, given)))
       (obeys-or-refusal s)
 
-  pub lookup-given : (name : Number) → (looked ≡ numberOf name) ↔ OnLookup s address pc name
+  pub lookup-given : (cause : Cause) → (looked ≡ numberOfCause cause) ↔ OnLookup s address pc cause
   lookup-given = due-exactly-when looked (OnLookup s address pc) lookup-due lookup-makes
 
 -- ---- a step
@@ -110,8 +106,8 @@ module _ (s stack : List ℕ) (lies : Where) (registers : Registers) where
   abbrev stepped : ℕ
   stepped = stepNumber (stepIn s stack lies registers)
 
-  step-makes : (name : Number) → OnStep s stack lies registers name → stepped ≡ numberOf name
-  unfolding numberOf
+  step-makes : (cause : Cause) → OnStep s stack lies registers cause → stepped ≡ numberOfCause cause
+  unfolding numberOfCause
   step-makes (unsound rule) on = steps.rule-exactly-when s stack lies registers rule .1 on
   step-makes noFunction (fits, obeys, none) =
       steps.no-function-exactly-when s stack lies registers .1 (fits, accepted-exactly-when s .1 obeys, none)
@@ -131,7 +127,7 @@ module _ (s stack : List ℕ) (lies : Where) (registers : Registers) where
   -- by the refusal that is the first
   refusal-due : (refusal : caller.Refusal) → stepped ≡ caller.numberOfRefusal refusal → caller.Given s stack lies registers refusal
       → Due stepped (OnStep s stack lies registers)
-  unfolding numberOf caller.numberOfRefusal
+  unfolding numberOfCause caller.numberOfRefusal
   refusal-due caller.window is given = inr (window, is, given)
   refusal-due caller.noFunction is given =
       let (fits, accepted, none) = steps.no-function-exactly-when s stack lies registers .0 is in
@@ -159,5 +155,5 @@ module _ (s stack : List ℕ) (lies : Where) (registers : Registers) where
   pub step-due : Due stepped (OnStep s stack lies registers)
   step-due = answer-due (stepIn s stack lies registers) refl (steps.step-exactly-when s stack lies registers _ .0 refl)
 
-  pub step-given-exactly : (name : Number) → (stepped ≡ numberOf name) ↔ OnStep s stack lies registers name
+  pub step-given-exactly : (cause : Cause) → (stepped ≡ numberOfCause cause) ↔ OnStep s stack lies registers cause
   step-given-exactly = due-exactly-when stepped (OnStep s stack lies registers) step-due step-makes

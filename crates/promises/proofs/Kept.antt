@@ -25,8 +25,7 @@ kept-are-ours calls keeps i =
           i;
     }
 
--- that of demand k is `demands-met calls keeps .demand-k`
-pub demands-met : Promised
-demands-met calls keeps =
+pub promises-kept : Promised
+promises-kept calls keeps =
     subst Demands (sym (kept-are-ours calls keeps))
     (record { demand-1 = demand-1-ours; demand-2 = demand-2-ours; demand-3 = demand-3-ours })

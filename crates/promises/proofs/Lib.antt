@@ -1,3 +1,8 @@
+pub mod AcceptDetermined
+pub mod Broken
+pub mod CallerDetermined
+pub mod CauseLaws
+pub mod CodeMeets
 pub mod ContractLaws
 pub mod Demand1Met
 pub mod Demand2Met
@@ -5,8 +10,15 @@ pub mod Demand3Met
 pub mod GivenByTrace
 pub mod GivenExactly
 pub mod Kept
-pub mod NameLaws
+pub mod LookupDetermined
+pub mod MeasureDetermined
+pub mod NoChoice
+pub mod NumbersDetermined
 pub mod OrderLaws
+pub mod RequiresMet
 pub mod SameListings
+pub mod SectionDetermined
 pub mod SortedLaws
+pub mod SuntimpaniDetermined
 pub mod TableHolds
+pub mod TraceDetermined

@@ -1,5 +1,5 @@
 -- Two sorted sections that list the same functions compare equally many entries. Functions of size 0 may change places in them, but
--- the starts, which is all that the halving reads, are the same list: both rise, and one is the other in some order.
+-- the startsOf, which is all that the halvingOf reads, are the same list: both rise, and one is the other in some order.
 -- Assumes nothing.
 use mathlib.Core.Path.{_≡_, sym, _∙_, ap, fun-ext}
 use mathlib.Core.Bool.{true}
@@ -22,16 +22,16 @@ use Rattle.lookup.specs.declared.search.Landing.{Landing}
 use Rattle.promises.specs.SameFunctions.{SameFunctions}
 use Rattle.promises.proofs.OrderLaws.{same-reordered}
 
--- ---- the halving goes by the starts
+-- ---- the halvingOf goes by the startsOf
 
-abbrev pub starts : List Function → List ℤ
-starts fs = map (λ f. f .start) fs
+abbrev pub startsOf : List Function → List ℤ
+startsOf fs = map (λ f. f .start) fs
 
-halving : ℤ → List ℤ → Landing
-halving d zs = halve (λ i. leZ (getD zs i (noFunction .start)) d) (length zs) 0 (length zs) 0
+halvingOf : ℤ → List ℤ → Landing
+halvingOf d zs = halve (λ i. leZ (getD zs i (noFunction .start)) d) (length zs) 0 (length zs) 0
 
-landing-by-starts : (d : ℤ) (fs : List Function) → landing d fs ≡ halving d (starts fs)
-unfolding landing startsAtMost halving
+landing-by-starts : (d : ℤ) (fs : List Function) → landing d fs ≡ halvingOf d (startsOf fs)
+unfolding landing startsAtMost halvingOf
 landing-by-starts d fs =
     rw (length-map fs (λ f. f .start))
     (ap (λ atMost. halve atMost (length fs) 0 (length fs) 0)
@@ -67,11 +67,11 @@ rising-same (y ∷ ys) (z ∷ zs) rises rises′ p =
     let rest : ys ≡ zs = rising-same ys zs (Pairwise·of-cons rises) (Pairwise·of-cons rises′) left in
     cc
 
--- ---- the starts of an accepted sorted section rise
+-- ---- the startsOf of an accepted sorted section rise
 
 module _ (f : ℕ → Function) where
   all-later : (low : ℤ) (count from : ℕ) → ((j : ℕ) → from ≤ j → j < from + count → low ≤ℤ f j .start)
-      → (z : ℤ) → List·Memᴰ z (starts (listed f count from)) → low ≤ℤ z
+      → (z : ℤ) → List·Memᴰ z (startsOf (listed f count from)) → low ≤ℤ z
   unfolding listed
   all-later low zero from later z member = absurd (List·Memᴰ·not-nil member)
   all-later low (suc count) from later z member =
@@ -80,7 +80,7 @@ module _ (f : ℕ → Function) where
       (all-later low count (suc from) (λ j le lt. later j (omega arith) (omega arith)) z)
       (List·Memᴰ·cases-cons member)
 
-  listed-rise : (count from : ℕ) → ((i j : ℕ) → i < j → j < from + count → f i .start ≤ℤ f j .start) → Rising (starts (listed f count from))
+  listed-rise : (count from : ℕ) → ((i j : ℕ) → i < j → j < from + count → f i .start ≤ℤ f j .start) → Rising (startsOf (listed f count from))
   unfolding listed
   listed-rise zero from rise = Pairwise·nil
   listed-rise (suc count) from rise =
@@ -88,7 +88,7 @@ module _ (f : ℕ → Function) where
       (λ z member. ∥∥₁-elim member le-prop (all-later (f from .start) count (suc from) (λ j le lt. rise from j le (omega arith)) z))
       (listed-rise count (suc from) (λ i j less lt. rise i j less (omega arith)))
 
-starts-rise : (s : List ℕ) → verdict s ≡ Accepted → layoutOf s .sorted ≡ true → Rising (starts (functionsOf s))
+starts-rise : (s : List ℕ) → verdict s ≡ Accepted → layoutOf s .sorted ≡ true → Rising (startsOf (functionsOf s))
 unfolding functionsOf functionIn functionCount
 starts-rise s accepted sorted =
     listed-rise (functionIn s) (layoutOf s .functions) 0 λ i j less lt.
@@ -97,7 +97,7 @@ starts-rise s accepted sorted =
 -- ---- the count
 
 pub same-starts : (s t : List ℕ) → verdict s ≡ Accepted → verdict t ≡ Accepted → layoutOf s .sorted ≡ true → layoutOf t .sorted ≡ true
-    → SameFunctions s t → starts (functionsOf s) ≡ starts (functionsOf t)
+    → SameFunctions s t → startsOf (functionsOf s) ≡ startsOf (functionsOf t)
 same-starts s t accepted accepted′ sorted sorted′ same =
     rising-same _ _ (starts-rise s accepted sorted) (starts-rise t accepted′ sorted′) (Perm·map (λ f. f .start) (same-reordered same))
 
@@ -106,5 +106,5 @@ pub same-compared : (s t : List ℕ) → verdict s ≡ Accepted → verdict t �
 same-compared s t accepted accepted′ sorted sorted′ same d =
     ap (λ landing. landing .compared)
     (landing-by-starts d (functionsOf s)
-    ∙ ap (halving d) (same-starts s t accepted accepted′ sorted sorted′ same)
+    ∙ ap (halvingOf d) (same-starts s t accepted accepted′ sorted sorted′ same)
     ∙ sym (landing-by-starts d (functionsOf t)))

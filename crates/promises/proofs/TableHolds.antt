@@ -6,13 +6,13 @@ use Prim.Native.Nat.{ℕ}
 use Rattle.section.specs.SectionS.{sectionS, overlappingS, unsortedS, atEntry, withFrame}
 use Rattle.trace.specs.Opened.{traceOpened}
 use Rattle.promises.specs.Calls.{ours}
-use Rattle.promises.specs.Table.{replyTo, Holds, loaded, at, stackWindow, crashed, case, table, littleLeaf, bigLeaf, inLeaf, ofLeaf, aarch64Table}
+use Rattle.promises.specs.Table.{replyTo, Holds, loaded, at, stackWindow, crashed, agreed, table, littleLeaf, bigLeaf, inLeaf, ofLeaf, aarch64Table}
 
 pub table-holds : (lr first a b c d e f : ℕ) → Holds ours (table lr first a b c d e f)
-unfolding traceOpened sectionS overlappingS unsortedS atEntry withFrame ours replyTo loaded at stackWindow crashed case table
+unfolding traceOpened sectionS overlappingS unsortedS atEntry withFrame ours replyTo loaded at stackWindow crashed agreed table
 table-holds lr first a b c d e f =
     (refl, (refl, (refl, (refl, (refl, (refl, (refl, (refl, (refl, (refl, (refl, (refl, (refl, (refl, (refl, (refl, tt))))))))))))))))
 
 pub aarch64-holds : Holds ours aarch64Table
-unfolding traceOpened ours replyTo loaded stackWindow case littleLeaf bigLeaf inLeaf ofLeaf aarch64Table
+unfolding traceOpened ours replyTo loaded stackWindow agreed littleLeaf bigLeaf inLeaf ofLeaf aarch64Table
 aarch64-holds = (refl, (refl, (refl, (refl, (refl, (refl, tt))))))

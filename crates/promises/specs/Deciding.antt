@@ -43,21 +43,21 @@ Base-discrete : Discrete Base
 Base-discrete = byParts isSp baseFrom base-back Bool-discrete
 
 -- a place is an offset or none, and a block a repeat size or none
-placeOffset : Place → List Offset
-placeOffset Register = []
-placeOffset (AtOffset offset) = offset ∷ []
+offsetOfPlace : Place → List Offset
+offsetOfPlace Register = []
+offsetOfPlace (AtOffset offset) = offset ∷ []
 
 placeFrom : List Offset → Place
 placeFrom [] = Register
 placeFrom (offset ∷ offsets) = AtOffset offset
 
-place-back : (place : Place) → placeFrom (placeOffset place) ≡ place
-unfolding placeOffset placeFrom
+place-back : (place : Place) → placeFrom (offsetOfPlace place) ≡ place
+unfolding offsetOfPlace placeFrom
 place-back Register = refl
 place-back (AtOffset offset) = refl
 
 Place-discrete : Discrete Place
-Place-discrete = byParts placeOffset placeFrom place-back (List-discrete Offset-discrete)
+Place-discrete = byParts offsetOfPlace placeFrom place-back (List-discrete Offset-discrete)
 
 blockSize : Block → List ℕ
 blockSize plain = []

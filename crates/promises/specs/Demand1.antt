@@ -2,9 +2,10 @@
 -- rules say." A predicate of any four calls; when each number is due stands in Refusals.
 use mathlib.Core.Path.{_≡_}
 use mathlib.Core.List.{List}
-use mathlib.Core.Logic.{_↔_}
+use mathlib.Core.Logic.{_⊎_, _↔_}
 use Prim.Native.Nat.{ℕ, _*_}
 use lib.ListN.{length, drop}
+use Rattle.section.specs.declared.row.Row.{Row}
 use Rattle.accept.specs.Checks.{verdictNumber}
 use Rattle.accept.specs.Given.{Rule, numberOfRule, Given}
 use Rattle.accept.specs.declared.verdict.Verdict.the-variants as verdict
@@ -19,34 +20,37 @@ use Rattle.trace.specs.Cases.{Opened}
 use Rattle.trace.specs.Trace.{Trace, endingNumber}
 use Rattle.trace.specs.declared.answer.Ending.the-variants as ending
 use Rattle.promises.specs.Calls.{Calls}
-use Rattle.promises.specs.Refusals.{Number, unsound, noFunction, dispute, noRow, signed, cfaOutside, cfaLow, raLost, wordOutside, outermost, full, window, limitAbove, tooFewWords, numberOf, Numbered, OnCheck, OnLookup, OnStep, OnTrace}
+use Rattle.promises.specs.Refusals.{Cause, unsound, noFunction, dispute, noRow, signed, cfaOutside, cfaLow, raLost, wordOutside, outermost, full, window, limitAbove, tooFewWords, numberOfCause, HasCause, OnCheck, OnLookup, OnStep, OnTrace}
 
 -- ---- one call by itself
 
 -- "A refusal returns its number and the entry's index, 0 for 1 to 8 and 15."
 pub record CheckRefuses (calls : Calls) (s : List ℕ) : Type 0 where
-  pub given : (name : Number) → (verdictNumber (calls .check s) ≡ numberOf name) ↔ OnCheck s name
-  pub known : Numbered (verdictNumber (calls .check s))
+  pub given : (cause : Cause) → (verdictNumber (calls .check s) ≡ numberOfCause cause) ↔ OnCheck s cause
+  pub known : (calls .check s ≡ verdict.Accepted) ⊎ HasCause (verdictNumber (calls .check s))
   pub carries : (rule : Rule) (index : ℕ) → (calls .check s ≡ verdict.Refused (numberOfRule rule) index) ↔ Given s rule index
 
 -- "Section refusals carry 0.": no entry was compared
 pub record LookupRefuses (calls : Calls) (s : List ℕ) (address pc : ℕ) : Type 0 where
-  pub given : (name : Number) → (outcomeNumber (calls .lookup s address pc .outcome) ≡ numberOf name) ↔ OnLookup s address pc name
-  pub known : Numbered (outcomeNumber (calls .lookup s address pc .outcome))
+  pub given : (cause : Cause) → (outcomeNumber (calls .lookup s address pc .outcome) ≡ numberOfCause cause) ↔ OnLookup s address pc cause
+  pub known : ((row : Row) × (i : ℕ) × (k : ℕ) × (calls .lookup s address pc .outcome ≡ outcome.Found row i k))
+      ⊎ HasCause (outcomeNumber (calls .lookup s address pc .outcome))
   pub carries : (rule : Rule) (index : ℕ)
       → (calls .lookup s address pc .outcome ≡ outcome.Unsound (numberOfRule rule) index) ↔ Given s rule index
-  pub uncounted : (rule : Rule) (index : ℕ) → Given s rule index → calls .lookup s address pc .compared ≡ 0
+  pub no-count : (rule : Rule) (index : ℕ) → Given s rule index → calls .lookup s address pc .compared ≡ 0
 
 -- "a refusal hands back the old ones with its number, and for 1 to 15 the entry's index"
 pub record StepRefuses (calls : Calls) (s stack : List ℕ) (lies : Where) (registers : Registers) : Type 0 where
-  pub given : (name : Number) → (stepNumber (calls .step s stack lies registers) ≡ numberOf name) ↔ OnStep s stack lies registers name
-  pub known : Numbered (stepNumber (calls .step s stack lies registers))
+  pub given : (cause : Cause) → (stepNumber (calls .step s stack lies registers) ≡ numberOfCause cause) ↔ OnStep s stack lies registers cause
+  pub known : ((caller : Registers) × (calls .step s stack lies registers ≡ step.Caller caller))
+      ⊎ HasCause (stepNumber (calls .step s stack lies registers))
   pub carries : (rule : Rule) (index : ℕ)
       → (calls .step s stack lies registers ≡ step.Unsound registers (numberOfRule rule) index) ↔ (WindowFits stack lies × Given s rule index)
-  pub old : ¬ (stepNumber (calls .step s stack lies registers) ≡ 0) → stepRegisters (calls .step s stack lies registers) ≡ registers
+  pub old : ((caller : Registers) → ¬ (calls .step s stack lies registers ≡ step.Caller caller))
+      → stepRegisters (calls .step s stack lies registers) ≡ registers
 
 -- the numbers that a trace has "Before anything else": 41 to 43, "then 1 to 15"
-abbrev pub BeforeTheWalk : Number → Type 0
+abbrev pub BeforeTheWalk : Cause → Type 0
 BeforeTheWalk (unsound rule) = Unit {0}
 BeforeTheWalk noFunction = ⊥
 BeforeTheWalk dispute = ⊥
@@ -63,22 +67,22 @@ BeforeTheWalk limitAbove = Unit {0}
 BeforeTheWalk tooFewWords = Unit {0}
 
 -- the buffer as the rules say
-pub record Leaves (t : Trace) (old : List ℕ) : Type 0 where
+pub record BufferLeft (t : Trace) (old : List ℕ) : Type 0 where
   -- "These write nothing and answer 0 frames with their number"
-  pub nothing : (name : Number) → BeforeTheWalk name → endingNumber (t .answer .ending) ≡ numberOf name → (t .answer .frames ≡ 0) × (t .words ≡ old)
+  pub nothing : (cause : Cause) → BeforeTheWalk cause → endingNumber (t .answer .ending) ≡ numberOfCause cause → (t .answer .frames ≡ 0) × (t .words ≡ old)
   -- "Words after the written frames keep what they held.", three words to a frame
   pub kept : drop (3 * t .answer .frames) (t .words) ≡ drop (3 * t .answer .frames) old
   pub as-many : length (t .words) ≡ length old
 
 -- "and for 1 to 15 the entry's index"
 pub record TraceRefuses (calls : Calls) (s stack : List ℕ) (lies : Where) (registers : Registers) (limit : ℕ) (old : List ℕ) : Type 0 where
-  pub given : (name : Number)
-      → (endingNumber (calls .trace s stack lies registers limit old .answer .ending) ≡ numberOf name) ↔ OnTrace s stack lies registers limit old name
-  pub known : (name : Number) × (endingNumber (calls .trace s stack lies registers limit old .answer .ending) ≡ numberOf name)
+  pub given : (cause : Cause)
+      → (endingNumber (calls .trace s stack lies registers limit old .answer .ending) ≡ numberOfCause cause) ↔ OnTrace s stack lies registers limit old cause
+  pub known : HasCause (endingNumber (calls .trace s stack lies registers limit old .answer .ending))
   pub carries : (rule : Rule) (index : ℕ)
       → (calls .trace s stack lies registers limit old .answer .ending ≡ ending.Unsound (numberOfRule rule) index)
       ↔ (Opened stack lies limit old × Given s rule index)
-  pub leaves : Leaves (calls .trace s stack lies registers limit old) old
+  pub leaves : BufferLeft (calls .trace s stack lies registers limit old) old
 
 -- ---- all four, on every input
 

@@ -5,8 +5,10 @@ pub mod Demand1
 pub mod Demand2
 pub mod Demand3
 pub mod Determined
+pub mod Lent
 pub mod Listings
 pub mod Promises
 pub mod Refusals
 pub mod SameFunctions
 pub mod Table
+pub mod Wrong

@@ -1,12 +1,11 @@
--- Every number of document 01 in one table: what it is called, and when each of the four calls gives it. The rules are the layers'
--- own; a number that a call never gives is given under no condition.
+-- Every number of document 01, of a refusal or an ending, in one table: its cause, and when each of the four calls gives it. The rules
+-- are the layers' own; a cause that a call never has holds under no condition.
 use mathlib.Core.Path.{_≡_}
 use mathlib.Core.List.{List, [], _∷_}
-use mathlib.Core.Logic.{_⊎_}
 use Prim.Native.Nat.{ℕ}
 use lib.IntN.{ℤ}
 use Rattle.numbers.specs.Held.{distance}
-use Rattle.accept.specs.Given.{Rule, numberOfRule, Given}
+use Rattle.accept.specs.Given.{Rule, short, long, magic, version, flags, abi, fixed, sizes, entryInfo, repeatSize, rowsInside, rowInfo, rowsRising, sorted, rowSum, numberOfRule, Given}
 use Rattle.accept.specs.Rules.{Obeys}
 use Rattle.lookup.specs.Cases.{NoneCovers, SomeTwoCover, NoRowCase}
 use Rattle.caller.specs.Cases as step
@@ -17,51 +16,59 @@ use Rattle.trace.specs.Cases.{LimitAbove, TooFewWords, Opened, Walks}
 use Rattle.trace.specs.declared.answer.Ending.the-variants.{Outermost, Full, Refused}
 use Rattle.trace.specs.declared.answer.Frame.{Frame}
 
--- the numbers by name; 1 to 15 have the names of accept's rules
-pub data Number : Type 0 where
-  unsound : Rule → Number
-  noFunction : Number
-  dispute : Number
-  noRow : Number
-  signed : Number
-  cfaOutside : Number
-  cfaLow : Number
-  raLost : Number
-  wordOutside : Number
-  outermost : Number
-  full : Number
-  window : Number
-  limitAbove : Number
-  tooFewWords : Number
+-- why a call is refused or a trace ends; for 1 to 15, which rule of the section is broken
+pub data Cause : Type 0 where
+  unsound : Rule → Cause
+  noFunction : Cause
+  dispute : Cause
+  noRow : Cause
+  signed : Cause
+  cfaOutside : Cause
+  cfaLow : Cause
+  raLost : Cause
+  wordOutside : Cause
+  outermost : Cause
+  full : Cause
+  window : Cause
+  limitAbove : Cause
+  tooFewWords : Cause
 
-unfoldable pub numberOf : Number → ℕ
-numberOf (unsound rule) = numberOfRule rule
-numberOf noFunction = 21
-numberOf dispute = 22
-numberOf noRow = 23
-numberOf signed = 24
-numberOf cfaOutside = 25
-numberOf cfaLow = 26
-numberOf raLost = 27
-numberOf wordOutside = 28
-numberOf outermost = 30
-numberOf full = 31
-numberOf window = 41
-numberOf limitAbove = 42
-numberOf tooFewWords = 43
+unfoldable pub numberOfCause : Cause → ℕ
+numberOfCause (unsound rule) = numberOfRule rule
+numberOfCause noFunction = 21
+numberOfCause dispute = 22
+numberOfCause noRow = 23
+numberOfCause signed = 24
+numberOfCause cfaOutside = 25
+numberOfCause cfaLow = 26
+numberOfCause raLost = 27
+numberOfCause wordOutside = 28
+numberOfCause outermost = 30
+numberOfCause full = 31
+numberOfCause window = 41
+numberOfCause limitAbove = 42
+numberOfCause tooFewWords = 43
 
--- 0, which stands for accepted, found or a caller, or one of these
-abbrev pub Numbered : ℕ → Type 0
-Numbered number = (number ≡ 0) ⊎ ((name : Number) × (number ≡ numberOf name))
+-- every cause, in the order of the numbers
+unfoldable pub everyCause : List Cause
+everyCause =
+    unsound short ∷ unsound long ∷ unsound magic ∷ unsound version ∷ unsound flags ∷ unsound abi ∷ unsound fixed ∷ unsound sizes
+    ∷ unsound entryInfo ∷ unsound repeatSize ∷ unsound rowsInside ∷ unsound rowInfo ∷ unsound rowsRising ∷ unsound sorted ∷ unsound rowSum
+    ∷ noFunction ∷ dispute ∷ noRow ∷ signed ∷ cfaOutside ∷ cfaLow ∷ raLost ∷ wordOutside
+    ∷ outermost ∷ full ∷ window ∷ limitAbove ∷ tooFewWords ∷ []
+
+-- a number is that of a cause
+abbrev pub HasCause : ℕ → Type 0
+HasCause number = (cause : Cause) × (number ≡ numberOfCause cause)
 
 -- ---- "Section checks, in this order"
 
 -- 1 to 15: the rule is the first broken one, in the entry with some index
-abbrev pub FirstBroken : List ℕ → Rule → Type 0
-FirstBroken s rule = (index : ℕ) × Given s rule index
+abbrev pub BrokenFirst : List ℕ → Rule → Type 0
+BrokenFirst s rule = (index : ℕ) × Given s rule index
 
-abbrev pub OnCheck : List ℕ → Number → Type 0
-OnCheck s (unsound rule) = FirstBroken s rule
+abbrev pub OnCheck : List ℕ → Cause → Type 0
+OnCheck s (unsound rule) = BrokenFirst s rule
 OnCheck s noFunction = ⊥
 OnCheck s dispute = ⊥
 OnCheck s noRow = ⊥
@@ -83,8 +90,8 @@ module _ (s : List ℕ) (address pc : ℕ) where
   abbrev d : ℤ
   d = distance address pc
 
-  abbrev pub OnLookup : Number → Type 0
-  OnLookup (unsound rule) = FirstBroken s rule
+  abbrev pub OnLookup : Cause → Type 0
+  OnLookup (unsound rule) = BrokenFirst s rule
   -- "21: no function covers"
   OnLookup noFunction = Obeys s × NoneCovers s d
   -- "22: two or more do"
@@ -109,8 +116,8 @@ module _ (s stack : List ℕ) (lies : Where) (registers : Registers) where
   abbrev dAt : ℤ
   dAt = distance (lies .section) (registers .pc)
 
-  abbrev pub OnStep : Number → Type 0
-  OnStep (unsound rule) = WindowFits stack lies × FirstBroken s rule
+  abbrev pub OnStep : Cause → Type 0
+  OnStep (unsound rule) = WindowFits stack lies × BrokenFirst s rule
   OnStep noFunction = WindowFits stack lies × Obeys s × NoneCovers s dAt
   OnStep dispute = WindowFits stack lies × Obeys s × SomeTwoCover s dAt
   OnStep noRow = WindowFits stack lies × Obeys s × ((i : ℕ) × NoRowCase s dAt i)
@@ -138,8 +145,8 @@ module _ (s stack : List ℕ) (lies : Where) (registers : Registers) (limit : �
   abbrev StepRefused : ℕ → Type 0
   StepRefused number = (frames : List Frame) × Walks s stack lies registers limit buffer frames (Refused number)
 
-  abbrev pub OnTrace : Number → Type 0
-  OnTrace (unsound rule) = Opened stack lies limit buffer × FirstBroken s rule
+  abbrev pub OnTrace : Cause → Type 0
+  OnTrace (unsound rule) = Opened stack lies limit buffer × BrokenFirst s rule
   OnTrace noFunction = StepRefused 21
   OnTrace dispute = StepRefused 22
   OnTrace noRow = StepRefused 23

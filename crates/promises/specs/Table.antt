@@ -20,35 +20,35 @@ use Rattle.promises.specs.Calls.{Calls}
 -- ---- a case: a section, what is asked of it, and the reply
 
 pub data Question : Type 0 where
-  check : Question
+  askCheck : Question
   -- the section's address and PC
-  lookup : ℕ → ℕ → Question
+  askLookup : ℕ → ℕ → Question
   -- the stack window, where it and the section lie, and the registers
-  caller : List ℕ → Where → Registers → Question
+  askCaller : List ℕ → Where → Registers → Question
   -- these, the limit and what the buffer holds
-  trace : List ℕ → Where → Registers → ℕ → List ℕ → Question
+  askTrace : List ℕ → Where → Registers → ℕ → List ℕ → Question
 
 pub data Reply : Type 0 where
-  verdict : Verdict → Reply
-  answer : Answer → Reply
-  stepped : Step → Reply
-  traced : Trace → Reply
+  aVerdict : Verdict → Reply
+  anAnswer : Answer → Reply
+  aStep : Step → Reply
+  aTrace : Trace → Reply
 
-pub record Case : Type 0 where
+pub record Agreed : Type 0 where
   pub section : List ℕ
   pub question : Question
   pub expected : Reply
 
 unfoldable pub replyTo : Calls → List ℕ → Question → Reply
-replyTo calls s check = verdict (calls .check s)
-replyTo calls s (lookup address pc) = answer (calls .lookup s address pc)
-replyTo calls s (caller stack lies registers) = stepped (calls .step s stack lies registers)
-replyTo calls s (trace stack lies registers limit old) = traced (calls .trace s stack lies registers limit old)
+replyTo calls s askCheck = aVerdict (calls .check s)
+replyTo calls s (askLookup address pc) = anAnswer (calls .lookup s address pc)
+replyTo calls s (askCaller stack lies registers) = aStep (calls .step s stack lies registers)
+replyTo calls s (askTrace stack lies registers limit old) = aTrace (calls .trace s stack lies registers limit old)
 
 -- these calls reply to every case of a table as it expects
-abbrev pub Holds : Calls → List Case → Type 0
+abbrev pub Holds : Calls → List Agreed → Type 0
 Holds calls [] = Unit {0}
-Holds calls (case ∷ cases) = (replyTo calls (case .section) (case .question) ≡ case .expected) × Holds calls cases
+Holds calls (agreed ∷ cases) = (replyTo calls (agreed .section) (agreed .question) ≡ agreed .expected) × Holds calls cases
 
 -- ---- what is asked, and of what
 
@@ -57,7 +57,7 @@ unfoldable pub loaded : Where
 loaded = record { section = 0x400000; stack = 0x7000 }
 
 unfoldable pub at : ℕ → Question
-at pc = lookup 0x400000 pc
+at pc = askLookup 0x400000 pc
 
 -- "64 bytes, all zero but the word 0x401008 at 0x7000"
 unfoldable pub stackWindow : List ℕ
@@ -67,44 +67,44 @@ stackWindow = 0x08 ∷ 0x10 ∷ 0x40 ∷ replicate 61 0
 unfoldable pub crashed : ℕ → ℕ → Registers
 crashed lr first = record { pc = 0x401044; sp = 0x7000; fp = 0x7030; lr = lr; first = first }
 
-unfoldable pub case : List ℕ → Question → Reply → Case
-case section question expected = record { section = section; question = question; expected = expected }
+unfoldable pub agreed : List ℕ → Question → Reply → Agreed
+agreed section question expected = record { section = section; question = question; expected = expected }
 
 -- ---- K1 to K12, for any LR, mark and words that the buffer held
 
-unfoldable pub table : (lr first a b c d e f : ℕ) → List Case
+unfoldable pub table : (lr first a b c d e f : ℕ) → List Agreed
 table lr first a b c d e f =
     -- "K1: S is accepted."
-    case sectionS check (verdict Accepted)
+    agreed sectionS askCheck (aVerdict Accepted)
     -- "K2: the first 77 bytes, 8."
-    ∷ case (take 77 sectionS) check (verdict (Refused 8 0))
+    ∷ agreed (take 77 sectionS) askCheck (aVerdict (Refused 8 0))
     -- "K3: 27 bytes, 1."
-    ∷ case (take 27 sectionS) check (verdict (Refused 1 0))
+    ∷ agreed (take 27 sectionS) askCheck (aVerdict (Refused 1 0))
     -- "K4: PC 0x401003, CFA = SP + 8, count 2."
-    ∷ case sectionS (at 0x401003) (answer (record { outcome = Found atEntry 0 0; compared = 2 }))
+    ∷ agreed sectionS (at 0x401003) (anAnswer (record { outcome = Found atEntry 0 0; compared = 2 }))
     -- "K5: 0x401004 and 0x40101f, CFA = FP + 16, FP at CFA - 16."
-    ∷ case sectionS (at 0x401004) (answer (record { outcome = Found withFrame 0 1; compared = 2 }))
-    ∷ case sectionS (at 0x40101f) (answer (record { outcome = Found withFrame 0 1; compared = 2 }))
+    ∷ agreed sectionS (at 0x401004) (anAnswer (record { outcome = Found withFrame 0 1; compared = 2 }))
+    ∷ agreed sectionS (at 0x40101f) (anAnswer (record { outcome = Found withFrame 0 1; compared = 2 }))
     -- "K6: 0x400fff, 0x401020 and 0x40103f, 21."
-    ∷ case sectionS (at 0x400fff) (answer (record { outcome = NoFunction; compared = 2 }))
-    ∷ case sectionS (at 0x401020) (answer (record { outcome = NoFunction; compared = 2 }))
-    ∷ case sectionS (at 0x40103f) (answer (record { outcome = NoFunction; compared = 2 }))
+    ∷ agreed sectionS (at 0x400fff) (anAnswer (record { outcome = NoFunction; compared = 2 }))
+    ∷ agreed sectionS (at 0x401020) (anAnswer (record { outcome = NoFunction; compared = 2 }))
+    ∷ agreed sectionS (at 0x40103f) (anAnswer (record { outcome = NoFunction; compared = 2 }))
     -- "K7: 0x401040, second function, count 1."
-    ∷ case sectionS (at 0x401040) (answer (record { outcome = Found atEntry 1 0; compared = 1 }))
+    ∷ agreed sectionS (at 0x401040) (anAnswer (record { outcome = Found atEntry 1 0; compared = 1 }))
     -- "K8: S with second start 0x101f, 14"
-    ∷ case overlappingS check (verdict (Refused 14 1))
+    ∷ agreed overlappingS askCheck (aVerdict (Refused 14 1))
     -- "K9: the same with flags 00 is accepted, and PC 0x40101f is 22."
-    ∷ case unsortedS check (verdict Accepted)
-    ∷ case unsortedS (at 0x40101f) (answer (record { outcome = Dispute 0 1; compared = 2 }))
+    ∷ agreed unsortedS askCheck (aVerdict Accepted)
+    ∷ agreed unsortedS (at 0x40101f) (anAnswer (record { outcome = Dispute 0 1; compared = 2 }))
     -- "K10: .. limit 2. Words 0x7008, 0x401008, 0x7030, 0x7040, 0, 0; two frames, ending 30."
-    ∷ case sectionS (trace stackWindow loaded (crashed lr first) 2 (a ∷ b ∷ c ∷ d ∷ e ∷ f ∷ []))
-    (traced (tracedAs (record { ending = ending.Outermost; frames = 2 }) (0x7008 ∷ 0x401008 ∷ 0x7030 ∷ 0x7040 ∷ 0 ∷ 0 ∷ [])))
+    ∷ agreed sectionS (askTrace stackWindow loaded (crashed lr first) 2 (a ∷ b ∷ c ∷ d ∷ e ∷ f ∷ []))
+    (aTrace (tracedAs (record { ending = ending.Outermost; frames = 2 }) (0x7008 ∷ 0x401008 ∷ 0x7030 ∷ 0x7040 ∷ 0 ∷ 0 ∷ [])))
     -- "K11: limit 1, one frame, 31."
-    ∷ case sectionS (trace stackWindow loaded (crashed lr first) 1 (a ∷ b ∷ c ∷ []))
-    (traced (tracedAs (record { ending = ending.Full; frames = 1 }) (0x7008 ∷ 0x401008 ∷ 0x7030 ∷ [])))
+    ∷ agreed sectionS (askTrace stackWindow loaded (crashed lr first) 1 (a ∷ b ∷ c ∷ []))
+    (aTrace (tracedAs (record { ending = ending.Full; frames = 1 }) (0x7008 ∷ 0x401008 ∷ 0x7030 ∷ [])))
     -- "K12: limit 2 again, 63 stack bytes, one frame, 28."
-    ∷ case sectionS (trace (take 63 stackWindow) loaded (crashed lr first) 2 (a ∷ b ∷ c ∷ d ∷ e ∷ f ∷ []))
-    (traced (tracedAs (record { ending = ending.Refused 28; frames = 1 }) (0x7008 ∷ 0x401008 ∷ 0x7030 ∷ d ∷ e ∷ f ∷ [])))
+    ∷ agreed sectionS (askTrace (take 63 stackWindow) loaded (crashed lr first) 2 (a ∷ b ∷ c ∷ d ∷ e ∷ f ∷ []))
+    (aTrace (tracedAs (record { ending = ending.Refused 28; frames = 1 }) (0x7008 ∷ 0x401008 ∷ 0x7030 ∷ d ∷ e ∷ f ∷ [])))
     ∷ []
 
 -- ---- "AArch64, first frame, SP base, offset 0: CFA = SP, RA = LR. The same row later: 26. With offset 16 later: 27."
@@ -129,14 +129,14 @@ unfoldable pub inLeaf : ℕ → Registers
 inLeaf first = record { pc = 0x401010; sp = 0x7000; fp = 0x7030; lr = 0x401008; first = first }
 
 unfoldable pub ofLeaf : ℕ → Question
-ofLeaf first = caller stackWindow loaded (inLeaf first)
+ofLeaf first = askCaller stackWindow loaded (inLeaf first)
 
-unfoldable pub aarch64Table : List Case
+unfoldable pub aarch64Table : List Agreed
 aarch64Table =
-    case (littleLeaf 0) (ofLeaf 1) (stepped (step.Caller (record { pc = 0x401008; sp = 0x7000; fp = 0x7030; lr = 0x401008; first = 0 })))
-    ∷ case (littleLeaf 0) (ofLeaf 0) (stepped (step.Refused (inLeaf 0) 26))
-    ∷ case (littleLeaf 16) (ofLeaf 0) (stepped (step.Refused (inLeaf 0) 27))
-    ∷ case (bigLeaf 0) (ofLeaf 1) (stepped (step.Caller (record { pc = 0x401008; sp = 0x7000; fp = 0x7030; lr = 0x401008; first = 0 })))
-    ∷ case (bigLeaf 0) (ofLeaf 0) (stepped (step.Refused (inLeaf 0) 26))
-    ∷ case (bigLeaf 16) (ofLeaf 0) (stepped (step.Refused (inLeaf 0) 27))
+    agreed (littleLeaf 0) (ofLeaf 1) (aStep (step.Caller (record { pc = 0x401008; sp = 0x7000; fp = 0x7030; lr = 0x401008; first = 0 })))
+    ∷ agreed (littleLeaf 0) (ofLeaf 0) (aStep (step.Refused (inLeaf 0) 26))
+    ∷ agreed (littleLeaf 16) (ofLeaf 0) (aStep (step.Refused (inLeaf 0) 27))
+    ∷ agreed (bigLeaf 0) (ofLeaf 1) (aStep (step.Caller (record { pc = 0x401008; sp = 0x7000; fp = 0x7030; lr = 0x401008; first = 0 })))
+    ∷ agreed (bigLeaf 0) (ofLeaf 0) (aStep (step.Refused (inLeaf 0) 26))
+    ∷ agreed (bigLeaf 16) (ofLeaf 0) (aStep (step.Refused (inLeaf 0) 27))
     ∷ []

@@ -1,0 +1,29 @@
+-- Every public function of `lookup` determines its reply: two replies that its own contract allows for one input are equal.
+-- Assumes nothing.
+use mathlib.Core.Path.{refl, sym, _∙_}
+use Rattle.promises.specs.Determined.{Determined}
+use Rattle.lookup.proofs.look.look.Kinds as look-kinds
+use Rattle.lookup.proofs.look.look.Reads as look-reads
+use Rattle.lookup.proofs.look.lookup.Kinds as lookup-kinds
+use Rattle.lookup.proofs.look.lookup.Reads as lookup-reads
+use Rattle.lookup.proofs.rows.scan_rows.Kinds as scan_rows-kinds
+use Rattle.lookup.proofs.rows.scan_rows.Reads as scan_rows-reads
+use Rattle.lookup.proofs.search.find.Kinds as find-kinds
+use Rattle.lookup.proofs.search.find.Reads as find-reads
+use Rattle.lookup.proofs.table.entry_in.Kinds as entry_in-kinds
+use Rattle.lookup.proofs.table.entry_in.Reads as entry_in-reads
+
+pub look-determined : Determined look-kinds.ps look-kinds.r look-reads.Post
+look-determined κs a z z′ w w′ p q = (p ∙ sym q, refl)
+
+pub lookup-determined : Determined lookup-kinds.ps lookup-kinds.r lookup-reads.Post
+lookup-determined κs a z z′ w w′ p q = (p ∙ sym q, refl)
+
+pub scan_rows-determined : Determined scan_rows-kinds.ps scan_rows-kinds.r scan_rows-reads.Post
+scan_rows-determined κs a z z′ w w′ p q = (p ∙ sym q, refl)
+
+pub find-determined : Determined find-kinds.ps find-kinds.r find-reads.Post
+find-determined κs a z z′ w w′ p q = (p ∙ sym q, refl)
+
+pub entry_in-determined : Determined entry_in-kinds.ps entry_in-kinds.r entry_in-reads.Post
+entry_in-determined κs a z z′ w w′ p q = (p ∙ sym q, refl)

@@ -1,0 +1,13 @@
+-- A slice that is lent to a function: its elements, and where they lie, of which no `requires` speaks.
+use Prim.Native.Nat.{ℕ}
+use mathlib.Core.List.{List}
+use base.Fml.{GName}
+use denote.Ref.{RefT}
+
+-- block and offset of the first element, and the name under which the elements are tracked
+pub record Lies : Type 0 where
+  pub place : ℕ × ℕ
+  pub name : GName
+
+abbrev pub lent : Lies → List ℕ → RefT (List ℕ)
+lent lies elements = record { ptr = lies .place; name = lies .name; now = elements }
