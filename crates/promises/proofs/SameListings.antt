@@ -8,6 +8,7 @@ use mathlib.Core.List.{List, [], _∷_, count, Perm·swap, Perm·count-eq, Perm�
 use mathlib.Core.Logic.{∥∥₁-elim, ⊎-elim}
 use Prim.Native.Nat.{ℕ}
 use native.Mathlib.Omega.{arith}
+use lib.ListN.{length}
 use Rattle.numbers.specs.Held.{natural}
 use Rattle.section.specs.Header.{marksOf, layoutOf}
 use Rattle.section.specs.Meaning.{Function, functionIn, functionsOf}
@@ -18,7 +19,7 @@ use Rattle.accept.specs.Rules.{rowInfoAt}
 use Rattle.accept.specs.declared.verdict.Verdict.the-variants.{Accepted}
 use Rattle.lookup.specs.Opened.{lookupOpened}
 use Rattle.promises.specs.Deciding.{Function-discrete}
-use Rattle.promises.specs.Listings.{plainFunction, repeatedFunction, shiftedFunction, sortedListing, otherListing, changedListing, shuffledS, uncounted}
+use Rattle.promises.specs.Listings.{plainFunction, repeatedFunction, shiftedFunction, sortedListing, otherListing, changedListing, shuffledS, zeroRowless, zeroWithRow, sizedEntry, zeroListing, zerosListed, zerosExchanged, uncounted}
 use Rattle.promises.specs.SameFunctions.{SameFunctions}
 use Rattle.promises.proofs.OrderLaws.{same-reordered}
 
@@ -65,21 +66,22 @@ shifted-differs e = let offset : _≡_ {A = ℕ} 16 24 = ap (λ f. firstOffset (
 
 -- ---- whether they list the same functions
 
--- two functions in the other order
-exchanged : {s t : List ℕ} (f g : Function) → marksOf s .abi ≡ marksOf t .abi → functionsOf s ≡ f ∷ g ∷ [] → functionsOf t ≡ g ∷ f ∷ []
+-- the first two functions in the other order
+exchanged : {s t : List ℕ} (f g : Function) (more : List Function) → marksOf s .abi ≡ marksOf t .abi → functionsOf s ≡ f ∷ g ∷ more
+    → functionsOf t ≡ g ∷ f ∷ more
     → SameFunctions s t
-exchanged f g machine lists lists′ =
+exchanged f g more machine lists lists′ =
     record {
       machine = machine;
       often = λ h.
           ap (count Function-discrete h) lists
-          ∙ Perm·count-eq Function-discrete (Perm·swap g f []) h
+          ∙ Perm·count-eq Function-discrete (Perm·swap g f more) h
           ∙ sym (ap (count Function-discrete h) lists′);
     }
 
 pub listings-same : SameFunctions sortedListing otherListing
 unfolding lookupOpened sortedListing otherListing
-listings-same = exchanged plainFunction repeatedFunction refl sorted-lists other-lists
+listings-same = exchanged plainFunction repeatedFunction [] refl sorted-lists other-lists
 
 -- the repeated function is none of the two that the changed section lists
 pub listings-differ : ¬ SameFunctions otherListing changedListing
@@ -138,4 +140,31 @@ shuffled-lists = refl
 
 pub shuffled-same : SameFunctions sectionS shuffledS
 unfolding lookupOpened sectionS shuffledS
-shuffled-same = exchanged (functionIn sectionS 0) (functionIn sectionS 1) refl s-lists shuffled-lists
+shuffled-same = exchanged (functionIn sectionS 0) (functionIn sectionS 1) [] refl s-lists shuffled-lists
+
+-- ---- two sorted sections that list the same functions in different orders
+
+pub zeros-accepted : (verdict zerosListed ≡ Accepted) × (verdict zerosExchanged ≡ Accepted)
+unfolding lookupOpened zeroRowless zeroWithRow sizedEntry zeroListing zerosListed zerosExchanged
+zeros-accepted = (refl, refl)
+
+pub zeros-sorted : (layoutOf zerosListed .sorted ≡ true) × (layoutOf zerosExchanged .sorted ≡ true)
+unfolding lookupOpened zeroRowless zeroWithRow sizedEntry zeroListing zerosListed zerosExchanged
+zeros-sorted = (refl, refl)
+
+-- the first function of the one is not the first of the other
+pub zeros-order-differs : ¬ (functionIn zerosListed 0 ≡ functionIn zerosExchanged 0)
+unfolding lookupOpened zeroRowless zeroWithRow sizedEntry zeroListing zerosListed zerosExchanged
+zeros-order-differs e = let rows : _≡_ {A = ℕ} 0 1 = ap (λ f. length (f .rows)) e in omega arith
+
+listed-zeros : functionsOf zerosListed ≡ functionIn zerosListed 0 ∷ functionIn zerosListed 1 ∷ functionIn zerosListed 2 ∷ []
+unfolding lookupOpened zeroRowless zeroWithRow sizedEntry zeroListing zerosListed
+listed-zeros = refl
+
+exchanged-zeros : functionsOf zerosExchanged ≡ functionIn zerosListed 1 ∷ functionIn zerosListed 0 ∷ functionIn zerosListed 2 ∷ []
+unfolding lookupOpened zeroRowless zeroWithRow sizedEntry zeroListing zerosListed zerosExchanged
+exchanged-zeros = refl
+
+pub zeros-same : SameFunctions zerosListed zerosExchanged
+unfolding lookupOpened zeroRowless zeroWithRow sizedEntry zeroListing zerosListed zerosExchanged
+zeros-same = exchanged (functionIn zerosListed 0) (functionIn zerosListed 1) (functionIn zerosListed 2 ∷ []) refl listed-zeros exchanged-zeros

@@ -1,7 +1,8 @@
 -- Written-out sections that list the same functions and differ where "field widths, key bit, padding and place in the row area don't
--- count", and one with a byte changed that counts. All are AArch64 little-endian but the last, which goes with section S.
+-- count", and one with a byte changed that counts, all AArch64 little-endian; section S in another order; and two sorted sections in
+-- different orders.
 use mathlib.Core.Bool.{Bool, true, false}
-use mathlib.Core.List.{List, [], _∷_}
+use mathlib.Core.List.{List, [], _∷_, _++_}
 use Prim.Native.Nat.{ℕ, _+_}
 use lib.IntN.{pos, negsuc}
 use lib.ListN.{set}
@@ -120,6 +121,35 @@ shuffledS =
     -- the rows of both
     ∷ 0x00 ∷ 0x83 ∷ 0x08
     ∷ 0x04 ∷ 0x84 ∷ 0x10 ∷ 0xf0 ∷ []
+
+-- ---- two sorted sections that list the same three functions in different orders: two of size 0 stand at one start
+
+-- at 0x1000: of size 0 with no row, of size 0 with the row, and of 0x20 bytes with the row
+unfoldable pub zeroRowless : List ℕ
+zeroRowless =
+    0x00 ∷ 0x10 ∷ 0x00 ∷ 0x00 ∷ 0x00 ∷ 0x00 ∷ 0x00 ∷ 0x00 ∷ 0x00 ∷ 0x00 ∷ 0x00 ∷ 0x00 ∷ 0x00 ∷ 0x00 ∷ 0x00 ∷ 0x00 ∷ 0x00 ∷ 0x00 ∷ 0x00 ∷ 0x00 ∷ []
+
+unfoldable pub zeroWithRow : List ℕ
+zeroWithRow =
+    0x00 ∷ 0x10 ∷ 0x00 ∷ 0x00 ∷ 0x00 ∷ 0x00 ∷ 0x00 ∷ 0x00 ∷ 0x00 ∷ 0x00 ∷ 0x00 ∷ 0x00 ∷ 0x01 ∷ 0x00 ∷ 0x00 ∷ 0x00 ∷ 0x00 ∷ 0x00 ∷ 0x00 ∷ 0x00 ∷ []
+
+unfoldable pub sizedEntry : List ℕ
+sizedEntry =
+    0x00 ∷ 0x10 ∷ 0x00 ∷ 0x00 ∷ 0x20 ∷ 0x00 ∷ 0x00 ∷ 0x00 ∷ 0x00 ∷ 0x00 ∷ 0x00 ∷ 0x00 ∷ 0x01 ∷ 0x00 ∷ 0x00 ∷ 0x00 ∷ 0x00 ∷ 0x00 ∷ 0x00 ∷ 0x00 ∷ []
+
+-- an AMD64 section with these two entries, the sized one after them, and the row
+unfoldable pub zeroListing : List ℕ → List ℕ → List ℕ
+zeroListing first second =
+    (0xe2 ∷ 0xde ∷ 0x02 ∷ 0x01 ∷ 0x03 ∷ 0x00 ∷ 0xf8 ∷ 0x00 ∷ 0x03 ∷ 0x00 ∷ 0x00 ∷ 0x00 ∷ 0x02 ∷ 0x00 ∷ 0x00 ∷ 0x00
+    ∷ 0x03 ∷ 0x00 ∷ 0x00 ∷ 0x00 ∷ 0x00 ∷ 0x00 ∷ 0x00 ∷ 0x00 ∷ 0x3c ∷ 0x00 ∷ 0x00 ∷ 0x00 ∷ [])
+    ++ first ++ second ++ sizedEntry
+    ++ (0x00 ∷ 0x03 ∷ 0x08 ∷ [])
+
+unfoldable pub zerosListed : List ℕ
+zerosListed = zeroListing zeroRowless zeroWithRow
+
+unfoldable pub zerosExchanged : List ℕ
+zerosExchanged = zeroListing zeroWithRow zeroRowless
 
 -- ---- what an entry says that doesn't count
 
