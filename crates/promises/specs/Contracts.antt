@@ -1,5 +1,6 @@
 -- The contracts of the four public functions as they stand beside the code, and what it is for any four calls to keep them. An
--- argument that is lent is (where it lies, its name, what it holds), of which `now` is what it holds.
+-- argument that is lent is (where it lies, its name, what it holds), of which `now` is what it holds. What no machine can hold, as a
+-- byte above 255, is among the inputs: no sentence needs a bound.
 use mathlib.Core.Path.{_≡_}
 use mathlib.Core.List.{List}
 use mathlib.Core.Logic.{_↔_}

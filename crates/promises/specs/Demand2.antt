@@ -4,9 +4,9 @@
 use mathlib.Core.Path.{_≡_}
 use mathlib.Core.List.{List}
 use mathlib.Core.Logic.{_↔_}
-use Prim.Native.Nat.{ℕ}
+use Prim.Native.Nat.{ℕ, suc, _+_, _*_, _<_}
 use lib.IntN.{pos}
-use lib.ListN.{length}
+use lib.ListN.{length, getD}
 use Rattle.numbers.specs.Held.{distance}
 use Rattle.section.specs.Header.{layoutOf}
 use Rattle.section.specs.declared.row.Row.{Row}
@@ -20,7 +20,7 @@ use Rattle.caller.specs.declared.registers.Registers.{Registers}
 use Rattle.caller.specs.declared.registers.Step.the-variants.{Caller}
 use Rattle.caller.specs.declared.registers.Where.{Where}
 use Rattle.trace.specs.Cases as trace
-use Rattle.trace.specs.Trace.{Trace, tracedAs, allWords, over}
+use Rattle.trace.specs.Trace.{Trace, withMark, tracedAs, allWords, over}
 use Rattle.trace.specs.declared.answer.Ending.{Ending}
 use Rattle.trace.specs.declared.answer.Frame.{Frame}
 use Rattle.promises.specs.Calls.{Calls}
@@ -49,6 +49,18 @@ pub record Traces (t : Trace) (s stack : List ℕ) (lies : Where) (registers : R
   pub case : trace.Case s stack lies registers limit old frames ending
   pub left : t ≡ leftBy frames ending old
 
+-- the same by the step call of the four: frame 0 is the caller of the registers handed in, with the mark, and each other frame the caller
+-- of the one before it; "CFA, RA, FP each" are the caller's SP, PC and FP
+pub record FromTheLast (calls : Calls) (s stack : List ℕ) (lies : Where) (registers : Registers) (limit : ℕ) (old : List ℕ) : Type 0 where
+  pub at : ℕ → Registers
+  pub starts : at 0 ≡ withMark registers
+  pub steps : (k : ℕ) → k < calls .trace s stack lies registers limit old .answer .frames
+      → calls .step s stack lies (at k) ≡ Caller (at (suc k))
+  pub written : (k : ℕ) → k < calls .trace s stack lies registers limit old .answer .frames
+      → (getD (calls .trace s stack lies registers limit old .words) (3 * k) 0 ≡ at (suc k) .sp)
+      × (getD (calls .trace s stack lies registers limit old .words) (3 * k + 1) 0 ≡ at (suc k) .pc)
+      × (getD (calls .trace s stack lies registers limit old .words) (3 * k + 2) 0 ≡ at (suc k) .fp)
+
 pub record Demand2 (calls : Calls) : Type 0 where
   -- "A section is accepted exactly when it obeys the listed rules."
   pub accepts : (s : List ℕ) → (calls .check s ≡ Accepted) ↔ Obeys s
@@ -64,3 +76,5 @@ pub record Demand2 (calls : Calls) : Type 0 where
   -- "The walk starts with the mark set and writes each frame that a step yields."
   pub traces : (s stack : List ℕ) (lies : Where) (registers : Registers) (limit : ℕ) (old : List ℕ)
       → Traces (calls .trace s stack lies registers limit old) s stack lies registers limit old
+  pub from-the-last : (s stack : List ℕ) (lies : Where) (registers : Registers) (limit : ℕ) (old : List ℕ)
+      → FromTheLast calls s stack lies registers limit old
