@@ -277,6 +277,18 @@ fn faults(functions: &[Function], proofs: &[Proofs], document: &str) -> Vec<Stri
     faults
 }
 
+/// A program's public functions answer nothing that could be stated: the document says of each that it is excepted, and
+/// of no other.
+fn excepted_faults(functions: &[Found], document: &str) -> Vec<String> {
+    let excepted: Vec<&str> =
+        rows(document).into_iter().filter(|(_, head)| head.starts_with("| Excepted |")).map(|(name, _)| name).collect();
+    let silent = functions.iter().filter(|function| !excepted.contains(&function.name.as_str()));
+    let mut faults: Vec<String> = silent.map(|function| format!("{}: it is not excepted", function.name)).collect();
+    let gone = excepted.iter().filter(|name| !functions.iter().any(|function| function.name == **name));
+    faults.extend(gone.map(|name| format!("{name}: no program has what is excepted")));
+    faults
+}
+
 // ---- the repository
 
 fn text_of(path: &Path) -> String {
@@ -324,6 +336,16 @@ fn every_public_function_is_spoken_of() {
     let document = text_of(&in_repository("docs/PROMISES.md"));
     assert!(!functions.is_empty(), "no library was found");
     assert_eq!(faults(&functions, &proofs, &document), Vec::<String>::new());
+}
+
+#[test]
+fn every_public_function_of_a_program_is_excepted() {
+    let programs = listed(&in_repository("crates")).into_iter().filter(|path| path.join("src/main.rt").exists());
+    let sources: Vec<Source> = programs.flat_map(|program| sources_in(&program.join("src"), "")).collect();
+    let functions: Vec<Found> = sources.iter().flat_map(|source| public_functions(&source.text)).collect();
+    let document = text_of(&in_repository("docs/PROMISES.md"));
+    assert!(!functions.is_empty(), "no program was found");
+    assert_eq!(excepted_faults(&functions, &document), Vec::<String>::new());
 }
 
 // ---- what the scan sees, and that it can fail
@@ -471,4 +493,12 @@ fn what_is_said_of_no_function_is_found() {
     let row = "get: the document's row is about no function";
     assert_eq!(faults_after(SOURCE, "fn get(n: u64) -> u64 { n }"), [gone[0], gone[1], row]);
     assert_eq!(faults_after(SOURCE, "pub fn get(n: u64) -> u64 { n }"), [gone[1], row]);
+}
+
+#[test]
+fn an_exception_is_of_a_program_that_has_it() {
+    let functions = public_functions("pub fn say(text: &[u8]) {}\npub fn loud(text: &[u8]) {}");
+    let document = "| Excepted | What it prints |\n|---|---|\n| `say` | a text |\n| `gone` | nothing |\n";
+    let faults = excepted_faults(&functions, document);
+    assert_eq!(faults, ["loud: it is not excepted", "gone: no program has what is excepted"]);
 }

@@ -1,6 +1,6 @@
 -- Every number of document 01, given as the ending of a trace exactly when it is due (`trace-given-exactly`), and every trace has one.
 -- Assumes nothing.
-use mathlib.Core.Path.{_≡_, refl, subst}
+use mathlib.Core.Path.{_≡_, refl, _∙_, ap, subst}
 use mathlib.Core.List.{List}
 use mathlib.Core.Logic.{inl, inr, _↔_}
 use Prim.Native.Nat.{ℕ, zero, suc, _+_, _-_, _≤_}
@@ -10,10 +10,12 @@ use Rattle.section.specs.Meaning.{shapeOf}
 use Rattle.accept.specs.Given.{numberOfRule}
 use Rattle.accept.proofs.Exactly.{given-exactly-when, refused-by-a-rule, number-of-rule}
 use Rattle.caller.specs.Caller.{stepNumber}
+use Rattle.caller.specs.Cases.{WindowFits}
 use Rattle.caller.specs.declared.registers.Registers.{Registers}
 use Rattle.caller.specs.declared.registers.Step.{Step}
 use Rattle.caller.specs.declared.registers.Step.the-variants as step
 use Rattle.caller.specs.declared.registers.Where.{Where}
+use Rattle.caller.proofs.Exactly.{step-of-checked}
 use Rattle.caller.proofs.NumberLaws.{Checked, checked}
 use Rattle.trace.specs.Cases.{AtDoor, RefusedWith, Walks, Case, stepAt}
 use Rattle.trace.specs.Trace.{Walk, walkIn, traceOf, endingNumber}
@@ -21,8 +23,9 @@ use Rattle.trace.specs.declared.answer.Ending.{Ending}
 use Rattle.trace.specs.declared.answer.Ending.the-variants.{Outermost, Full, Refused, Unsound}
 use Rattle.trace.specs.declared.answer.Frame.{Frame}
 use Rattle.trace.proofs.Exactly as traces
-use Rattle.promises.specs.Refusals.{Cause, unsound, noFunction, dispute, noRow, signed, cfaOutside, cfaLow, raLost, wordOutside, outermost, full, window, limitAbove, tooFewWords, numberOfCause, OnTrace}
+use Rattle.promises.specs.Refusals.{Cause, unsound, noFunction, dispute, noRow, signed, cfaOutside, cfaLow, raLost, wordOutside, outermost, full, window, limitAbove, tooFewWords, numberOfCause, OnStep, OnTrace}
 use Rattle.promises.proofs.CauseLaws.{due-exactly-when}
+use Rattle.promises.proofs.GivenExactly.{step-given-exactly}
 
 -- a step that is refused in a checked section has one of 21 to 28
 refused-between : (registers : Registers) (number : ℕ) (o : Step) → Checked registers o → RefusedWith o number → (21 ≤ number) × (number ≤ 28)
@@ -112,3 +115,12 @@ module _ (s stack : List ℕ) (lies : Where) (registers : Registers) (limit : �
 
   pub trace-given-exactly : (cause : Cause) → (endedWith ≡ numberOfCause cause) ↔ On cause
   trace-given-exactly = due-exactly-when endedWith On (let (cause, on) = trace-due in inr (cause, trace-makes cause on, on)) trace-makes
+
+  -- where a refused step ended it, that step's own cause holds of the registers that it was made from
+  pub refused-because : (cause : Cause) (frames : List Frame) (walks : Walks s stack lies registers limit old frames (Refused (numberOfCause cause)))
+      → OnStep s stack lies (walks .walk .follows .at (length frames)) cause
+  refused-because cause frames walks =
+      let last : Registers = walks .walk .follows .at (length frames) in
+      let fits : WindowFits stack lies = omega (arith, walks .opened .in-memory) in
+      step-given-exactly s stack lies last cause .0
+      (ap stepNumber (step-of-checked s stack lies last fits (walks .accepted)) ∙ walks .walk .ends .2 .number-is)
