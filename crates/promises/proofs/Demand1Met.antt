@@ -3,7 +3,8 @@
 use mathlib.Core.Path.{_≡_, sym, _∙_}
 use mathlib.Core.List.{List}
 use mathlib.Core.Logic.{_⊎_, inl, inr, _↔_, Iff·trans, ⊎-elim}
-use Prim.Native.Nat.{ℕ}
+use Prim.Native.Nat.{ℕ, _≤_}
+use native.Mathlib.Omega.{arith}
 use Rattle.section.specs.declared.row.Row.{Row}
 use Rattle.accept.specs.Checks.{verdict}
 use Rattle.accept.specs.Given.{Rule, numberOfRule, Given}
@@ -23,7 +24,7 @@ use Rattle.trace.specs.Trace.{traceOf}
 use Rattle.trace.proofs.Exactly as traces
 use Rattle.promises.specs.Calls.{ours}
 use Rattle.promises.specs.Demand1.{CheckRefuses, LookupRefuses, StepRefuses, BeforeTheWalk, BufferLeft, TraceRefuses, Demand1}
-use Rattle.promises.specs.Refusals.{Cause, unsound, noFunction, dispute, noRow, signed, cfaOutside, cfaLow, raLost, wordOutside, outermost, full, window, limitAbove, tooFewWords, HasCause, OnLookup, OnStep, OnTrace}
+use Rattle.promises.specs.Refusals.{Cause, unsound, noFunction, dispute, noRow, signed, cfaOutside, cfaLow, raLost, wordOutside, outermost, full, window, limitAbove, tooFewWords, numberOfCause, HasCause, OnLookup, OnStep, OnTrace}
 use Rattle.promises.proofs.GivenByTrace.{trace-number, trace-given-exactly}
 use Rattle.promises.proofs.GivenExactly.{check-given, lookup-due, lookup-given, step-due, step-given-exactly}
 use Rattle.promises.proofs.CauseLaws.{due-known}
@@ -105,21 +106,26 @@ step-refuses s stack lies registers =
           refused caller (steps.caller-exactly-when s stack lies registers caller .1 case);
     }
 
+-- 21 to 31 are the walk's
+between : {number : ℕ} → 21 ≤ number → number ≤ 31 → ¬ BeforeTheWalk number
+between least most before = ⊎-elim (λ h. omega arith) (λ h. omega arith) before
+
 module _ (s stack : List ℕ) (lies : Where) (registers : Registers) (limit : ℕ) (old : List ℕ) where
   -- a number from before the walk says that the door is shut or the section refused
-  refused-before : (cause : Cause) → BeforeTheWalk cause → OnTrace s stack lies registers limit old cause
+  refused-before : (cause : Cause) → BeforeTheWalk (numberOfCause cause) → OnTrace s stack lies registers limit old cause
       → ¬ (Opened stack lies limit old × (verdict s ≡ verdict.Accepted))
+  unfolding numberOfCause
   refused-before (unsound rule) before (opened, (index, given)) h = accepted-or-refused (sym (h .1) ∙ given-exactly-when s rule index .1 given)
-  refused-before noFunction before on h = before
-  refused-before dispute before on h = before
-  refused-before noRow before on h = before
-  refused-before signed before on h = before
-  refused-before cfaOutside before on h = before
-  refused-before cfaLow before on h = before
-  refused-before raLost before on h = before
-  refused-before wordOutside before on h = before
-  refused-before outermost before on h = before
-  refused-before full before on h = before
+  refused-before noFunction before on h = between (omega arith) (omega arith) before
+  refused-before dispute before on h = between (omega arith) (omega arith) before
+  refused-before noRow before on h = between (omega arith) (omega arith) before
+  refused-before signed before on h = between (omega arith) (omega arith) before
+  refused-before cfaOutside before on h = between (omega arith) (omega arith) before
+  refused-before cfaLow before on h = between (omega arith) (omega arith) before
+  refused-before raLost before on h = between (omega arith) (omega arith) before
+  refused-before wordOutside before on h = between (omega arith) (omega arith) before
+  refused-before outermost before on h = between (omega arith) (omega arith) before
+  refused-before full before on h = between (omega arith) (omega arith) before
   refused-before window before on h = h .0 .in-memory on
   refused-before limitAbove before on h = h .0 .allowed (on .1)
   refused-before tooFewWords before on h = h .0 .room (on .2)
@@ -128,9 +134,10 @@ module _ (s stack : List ℕ) (lies : Where) (registers : Registers) (limit : �
   trace-leaves =
       record {
         nothing =
-            λ cause before is.
+            λ before.
+            let (cause, is) = trace-number s stack lies registers limit old in
             traces.writes-nothing s stack lies registers limit old
-            (refused-before cause before (trace-given-exactly s stack lies registers limit old cause .0 is));
+            (refused-before cause (rw is at before) (trace-given-exactly s stack lies registers limit old cause .0 is));
         kept = traces.words-kept s stack lies registers limit old;
         as-many = traces.words-length s stack lies registers limit old;
       }

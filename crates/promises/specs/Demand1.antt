@@ -3,7 +3,7 @@
 use mathlib.Core.Path.{_≡_}
 use mathlib.Core.List.{List}
 use mathlib.Core.Logic.{_⊎_, _↔_}
-use Prim.Native.Nat.{ℕ, _*_}
+use Prim.Native.Nat.{ℕ, _*_, _≤_}
 use lib.ListN.{length, drop}
 use Rattle.section.specs.declared.row.Row.{Row}
 use Rattle.accept.specs.Checks.{verdictNumber}
@@ -20,7 +20,7 @@ use Rattle.trace.specs.Cases.{Opened}
 use Rattle.trace.specs.Trace.{Trace, endingNumber}
 use Rattle.trace.specs.declared.answer.Ending.the-variants as ending
 use Rattle.promises.specs.Calls.{Calls}
-use Rattle.promises.specs.Refusals.{Cause, unsound, noFunction, dispute, noRow, signed, cfaOutside, cfaLow, raLost, wordOutside, outermost, full, window, limitAbove, tooFewWords, numberOfCause, HasCause, OnCheck, OnLookup, OnStep, OnTrace}
+use Rattle.promises.specs.Refusals.{Cause, numberOfCause, HasCause, OnCheck, OnLookup, OnStep, OnTrace}
 
 -- ---- one call by itself
 
@@ -49,27 +49,14 @@ pub record StepRefuses (calls : Calls) (s stack : List ℕ) (lies : Where) (regi
   pub old : ((caller : Registers) → ¬ (calls .step s stack lies registers ≡ step.Caller caller))
       → stepRegisters (calls .step s stack lies registers) ≡ registers
 
--- the numbers that a trace has "Before anything else": 41 to 43, "then 1 to 15"
-abbrev pub BeforeTheWalk : Cause → Type 0
-BeforeTheWalk (unsound rule) = Unit {0}
-BeforeTheWalk noFunction = ⊥
-BeforeTheWalk dispute = ⊥
-BeforeTheWalk noRow = ⊥
-BeforeTheWalk signed = ⊥
-BeforeTheWalk cfaOutside = ⊥
-BeforeTheWalk cfaLow = ⊥
-BeforeTheWalk raLost = ⊥
-BeforeTheWalk wordOutside = ⊥
-BeforeTheWalk outermost = ⊥
-BeforeTheWalk full = ⊥
-BeforeTheWalk window = Unit {0}
-BeforeTheWalk limitAbove = Unit {0}
-BeforeTheWalk tooFewWords = Unit {0}
+-- "Before anything else, in order: 41 ..; 42 ..; 43 ..; then 1 to 15."
+abbrev pub BeforeTheWalk : ℕ → Type 0
+BeforeTheWalk number = (41 ≤ number) ⊎ (number ≤ 15)
 
 -- the buffer as the rules say
 pub record BufferLeft (t : Trace) (old : List ℕ) : Type 0 where
   -- "These write nothing and answer 0 frames with their number"
-  pub nothing : (cause : Cause) → BeforeTheWalk cause → endingNumber (t .answer .ending) ≡ numberOfCause cause → (t .answer .frames ≡ 0) × (t .words ≡ old)
+  pub nothing : BeforeTheWalk (endingNumber (t .answer .ending)) → (t .answer .frames ≡ 0) × (t .words ≡ old)
   -- "Words after the written frames keep what they held.", three words to a frame
   pub kept : drop (3 * t .answer .frames) (t .words) ≡ drop (3 * t .answer .frames) old
   pub as-many : length (t .words) ≡ length old
