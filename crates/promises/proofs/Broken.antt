@@ -204,3 +204,23 @@ repeating-frames-repeats s stack lies registers limit old = (getD (walkIn s stac
 pub inventing-frames-invents : (made : List Frame) → InventsFrames (inventingFrames made) made
 unfolding inventingFrames leaving traceOf traced tracedAs
 inventing-frames-invents made s stack lies registers limit old = (getD (walkIn s stack lies registers limit (length old) .frames) 0 noFrame, refl)
+
+-- ---- so each of these wrong calls is refused by its demand
+
+pub wrong-calls-broken :
+    (¬ Demand2 refusingEverything)
+    × ((row : Row) → ¬ Demand2 (findingOneRow row))
+    × (¬ Demand2 answering21)
+    × (¬ Demand2 writingNothing)
+    × (¬ Demand2 repeatingFrames)
+    × ((made : List Frame) → ¬ Demand2 (inventingFrames made))
+    × ((count : List ℕ → ℕ) → ¬ Demand3 (countingBy count))
+wrong-calls-broken = (
+  refuses-everything-breaks-2 refusingEverything refusing-everything-refuses,
+  λ row. one-fixed-row-breaks-2 (findingOneRow row) row (finding-one-row-finds row),
+  always-21-breaks-2 answering21 answering-21-always,
+  writes-nothing-breaks-2 writingNothing writing-nothing-writes,
+  repeats-frames-breaks-2 repeatingFrames repeating-frames-repeats,
+  λ made. invents-frames-breaks-2 (inventingFrames made) made (inventing-frames-invents made),
+  λ count. made-up-count-breaks-3 (countingBy count) count (counting-by-counts count),
+)

@@ -17,7 +17,7 @@ use Rattle.trace.specs.Trace.{Trace, tracedAs}
 use Rattle.trace.specs.declared.answer.Ending.the-variants as ending
 use Rattle.promises.specs.Calls.{Calls}
 
--- ---- a case: a section, what is asked of it, and the reply
+-- ---- a row: a section, what is asked of it, and the reply
 
 pub data Question : Type 0 where
   askCheck : Question
@@ -45,10 +45,10 @@ replyTo calls s (askLookup address pc) = anAnswer (calls .lookup s address pc)
 replyTo calls s (askCaller stack lies registers) = aStep (calls .step s stack lies registers)
 replyTo calls s (askTrace stack lies registers limit old) = aTrace (calls .trace s stack lies registers limit old)
 
--- these calls reply to every case of a table as it expects
+-- these calls reply to every row of a table as it expects
 abbrev pub Holds : Calls → List Agreed → Type 0
 Holds calls [] = Unit {0}
-Holds calls (agreed ∷ cases) = (replyTo calls (agreed .section) (agreed .question) ≡ agreed .expected) × Holds calls cases
+Holds calls (row ∷ rows) = (replyTo calls (row .section) (row .question) ≡ row .expected) × Holds calls rows
 
 -- ---- what is asked, and of what
 

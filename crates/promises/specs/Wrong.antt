@@ -61,7 +61,7 @@ module _ (calls : Calls) where
 unfoldable pub refusingEverything : Calls
 refusingEverything = record { check = λ s. verdict.Refused 1 0; lookup = lookupOf; step = stepIn; trace = traceOf }
 
--- it finds this row where ours finds any
+-- this row, at every PC
 unfoldable pub findingOneRow : Row → Calls
 findingOneRow row =
     record {
