@@ -121,6 +121,7 @@ module _ (s stack : List ℕ) (lies : Where) (registers : Registers) where
   OnStep noFunction = WindowFits stack lies × Obeys s × NoneCovers s dAt
   OnStep dispute = WindowFits stack lies × Obeys s × SomeTwoCover s dAt
   OnStep noRow = WindowFits stack lies × Obeys s × ((i : ℕ) × NoRowCase s dAt i)
+  -- 24 to 28 speak of the row that a lookup finds, which is `FoundCase`'s (`row-exactly-when` of the crate caller)
   -- "24: AArch64 and the row's signed bit is set."
   OnStep signed = step.Given s stack lies registers step.signed
   -- "25 when outside 0 to 2^64 - 1."
