@@ -9,7 +9,7 @@ use Rattle.section.specs.declared.row.Row.{Row}
 use Rattle.accept.specs.Checks.{verdict}
 use Rattle.accept.specs.Given.{Rule, numberOfRule, Given}
 use Rattle.accept.specs.declared.verdict.Verdict.the-variants as verdict
-use Rattle.accept.proofs.Exactly.{accepted-exactly-when, given-exactly-when, obeys-or-refusal}
+use Rattle.accept.proofs.Exactly.{accepted-exactly-when, given-exactly-when, refused-by-a-rule, obeys-or-refusal}
 use Rattle.accept.proofs.FaultLaws.{accepted-or-refused}
 use Rattle.lookup.specs.Answers.{lookupOf, outcomeNumber}
 use Rattle.lookup.specs.declared.answer.Outcome.the-variants.{Found}
@@ -99,6 +99,17 @@ step-refuses s stack lies registers =
       carries =
           λ rule index.
           Iff·trans (steps.unsound-exactly-when s stack lies registers (numberOfRule rule) index) (beside s rule index);
+      indexed =
+          λ index.
+          let by-number = steps.index-exactly-when s stack lies registers index in (
+            λ is.
+                let (fits, (number, e)) = by-number .0 is in
+                let (rule, number-is, given) = refused-by-a-rule s number index e in
+                (fits, rule, given),
+            λ h.
+                let (fits, rule, given) = h in
+                by-number .1 (fits, (numberOfRule rule, given-exactly-when s rule index .1 given)),
+          );
       old =
           λ refused.
           steps.old-handed-back s stack lies registers λ none.

@@ -1,7 +1,7 @@
 -- Demand 1: on anything that is handed in, "each refusal has a number, is given exactly under its rule, and leaves the buffer as the
 -- rules say." A predicate of any four calls; when each number is due stands in Refusals.
 use mathlib.Core.Path.{_≡_}
-use mathlib.Core.List.{List}
+use mathlib.Core.List.{List, [], _∷_}
 use mathlib.Core.Logic.{_⊎_, _↔_}
 use Prim.Native.Nat.{ℕ, _*_, _≤_}
 use lib.ListN.{length, drop}
@@ -11,7 +11,7 @@ use Rattle.accept.specs.Given.{Rule, numberOfRule, Given}
 use Rattle.accept.specs.declared.verdict.Verdict.the-variants as verdict
 use Rattle.lookup.specs.Answers.{outcomeNumber}
 use Rattle.lookup.specs.declared.answer.Outcome.the-variants as outcome
-use Rattle.caller.specs.Caller.{stepNumber, stepRegisters}
+use Rattle.caller.specs.Caller.{stepNumber, stepIndexes, stepRegisters}
 use Rattle.caller.specs.Cases.{WindowFits}
 use Rattle.caller.specs.declared.registers.Registers.{Registers}
 use Rattle.caller.specs.declared.registers.Step.the-variants as step
@@ -46,6 +46,9 @@ pub record StepRefuses (calls : Calls) (s stack : List ℕ) (lies : Where) (regi
       ⊎ HasCause (stepNumber (calls .step s stack lies registers))
   pub carries : (rule : Rule) (index : ℕ)
       → (calls .step s stack lies registers ≡ step.Unsound registers (numberOfRule rule) index) ↔ (WindowFits stack lies × Given s rule index)
+  -- an index comes with 1 to 15 alone
+  pub indexed : (index : ℕ)
+      → (stepIndexes (calls .step s stack lies registers) ≡ index ∷ []) ↔ (WindowFits stack lies × (rule : Rule) × Given s rule index)
   pub old : ((caller : Registers) → ¬ (calls .step s stack lies registers ≡ step.Caller caller))
       → stepRegisters (calls .step s stack lies registers) ≡ registers
 
