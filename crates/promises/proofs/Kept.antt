@@ -1,7 +1,7 @@
 -- The promises are kept: any four calls that keep the contracts of our public functions meet the three demands, since on every input
 -- they answer what those contracts name.
 -- Assumes nothing.
-use mathlib.Core.Path.{_≡_, sym, subst, fun-ext}
+use mathlib.Core.Path.{_≡_, sym, subst}
 use Prim.Native.Nat.{ℕ}
 use Rattle.promises.specs.Calls.{Calls, ours}
 use Rattle.promises.specs.Contracts.{Keeps}
@@ -11,22 +11,13 @@ use Rattle.promises.proofs.ContractLaws.{check-is, lookup-is, step-is, 
 use Rattle.promises.proofs.Demand1Met.{demand-1-ours}
 use Rattle.promises.proofs.Demand2Met.{demand-2-ours}
 use Rattle.promises.proofs.Demand3Met.{demand-3-ours}
+use Rattle.promises.proofs.SameCalls.{same-calls}
 use Rattle.promises.proofs.TableHolds.{table-holds, aarch64-holds}
 
 kept-are-ours : (calls : Calls) → Keeps calls → calls ≡ ours
 unfolding ours
-kept-are-ours calls keeps i =
-    record {
-      check = fun-ext (λ s. check-is calls keeps s) i;
-      lookup = fun-ext (λ s. fun-ext λ address. fun-ext λ pc. lookup-is calls keeps s address pc) i;
-      step = fun-ext (λ s. fun-ext λ stack. fun-ext λ lies. fun-ext λ registers. step-is calls keeps s stack lies registers) i;
-      trace =
-          fun-ext
-          (λ s.
-          fun-ext λ stack. fun-ext λ lies. fun-ext λ registers. fun-ext λ limit. fun-ext λ old.
-          trace-is calls keeps s stack lies registers limit old)
-          i;
-    }
+kept-are-ours calls keeps =
+    same-calls calls ours (check-is calls keeps) (lookup-is calls keeps) (step-is calls keeps) (trace-is calls keeps)
 
 pub promises-kept : Promised
 promises-kept calls keeps =

@@ -16,6 +16,7 @@ pub mod NoChoice
 pub mod NumbersDetermined
 pub mod OrderLaws
 pub mod RequiresMet
+pub mod SameCalls
 pub mod SameListings
 pub mod SectionDetermined
 pub mod SortedLaws

@@ -1,7 +1,7 @@
 -- The demands leave no choice: calls that meet demand 2 accept, find and trace as ours do, calls that meet demand 3 count as ours do,
 -- and calls that meet all three are ours (`demands-ours-alone`).
 -- Assumes nothing.
-use mathlib.Core.Path.{_≡_, refl, sym, _∙_, ap, fun-ext}
+use mathlib.Core.Path.{_≡_, refl, sym, _∙_, ap}
 use mathlib.Core.Bool.{true}
 use mathlib.Core.List.{List}
 use mathlib.Core.Logic.{⊎-elim}
@@ -29,6 +29,7 @@ use Rattle.promises.specs.Demand2.{leftBy, Demand2}
 use Rattle.promises.specs.Demand3.{Demand3}
 use Rattle.promises.specs.Promises.{Demands}
 use Rattle.promises.proofs.GivenExactly.{step-due}
+use Rattle.promises.proofs.SameCalls.{same-calls}
 
 module _ (calls : Calls) (demand : Demand2 calls) where
   pub accepts-as-ours : (s : List ℕ) → verdict s ≡ Accepted → calls .check s ≡ Accepted
@@ -145,15 +146,5 @@ module _ (calls : Calls) (demands : Demands calls) where
 
   pub demands-ours-alone : calls ≡ ours
   unfolding ours
-  demands-ours-alone i =
-      record {
-        check = fun-ext (λ s. checks-as-ours s) i;
-        lookup = fun-ext (λ s. fun-ext λ address. fun-ext λ pc. lookup-as-ours s address pc) i;
-        step = fun-ext (λ s. fun-ext λ stack. fun-ext λ lies. fun-ext λ registers. step-as-ours s stack lies registers) i;
-        trace =
-            fun-ext
-            (λ s.
-            fun-ext λ stack. fun-ext λ lies. fun-ext λ registers. fun-ext λ limit. fun-ext λ old.
-            traces-as-ours calls (demands .demand-2) s stack lies registers limit old)
-            i;
-      }
+  demands-ours-alone =
+      same-calls calls ours checks-as-ours lookup-as-ours step-as-ours (traces-as-ours calls (demands .demand-2))

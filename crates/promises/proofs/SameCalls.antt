@@ -1,0 +1,23 @@
+-- Four calls are the same as four others where each answers as its fellow does, on every input.
+-- Assumes nothing.
+use mathlib.Core.Path.{_≡_, fun-ext}
+use mathlib.Core.List.{List}
+use Prim.Native.Nat.{ℕ}
+use Rattle.caller.specs.declared.registers.Registers.{Registers}
+use Rattle.caller.specs.declared.registers.Where.{Where}
+use Rattle.promises.specs.Calls.{Calls}
+
+pub same-calls : (calls other : Calls)
+    → ((s : List ℕ) → calls .check s ≡ other .check s)
+    → ((s : List ℕ) (address pc : ℕ) → calls .lookup s address pc ≡ other .lookup s address pc)
+    → ((s stack : List ℕ) (lies : Where) (registers : Registers) → calls .step s stack lies registers ≡ other .step s stack lies registers)
+    → ((s stack : List ℕ) (lies : Where) (registers : Registers) (limit : ℕ) (old : List ℕ)
+    → calls .trace s stack lies registers limit old ≡ other .trace s stack lies registers limit old)
+    → calls ≡ other
+same-calls calls other checks lookups steps traces i =
+    record {
+      check = fun-ext checks i;
+      lookup = fun-ext (λ s. fun-ext λ address. fun-ext (lookups s address)) i;
+      step = fun-ext (λ s. fun-ext λ stack. fun-ext λ lies. fun-ext (steps s stack lies)) i;
+      trace = fun-ext (λ s. fun-ext λ stack. fun-ext λ lies. fun-ext λ registers. fun-ext λ limit. fun-ext (traces s stack lies registers limit)) i;
+    }
