@@ -7,6 +7,7 @@ pub mod ContractLaws
 pub mod Demand1Met
 pub mod Demand2Met
 pub mod Demand3Met
+pub mod ExportedKept
 pub mod GivenByTrace
 pub mod GivenExactly
 pub mod Kept

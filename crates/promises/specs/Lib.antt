@@ -5,6 +5,7 @@ pub mod Demand1
 pub mod Demand2
 pub mod Demand3
 pub mod Determined
+pub mod Exported
 pub mod Lent
 pub mod Listings
 pub mod Promises

@@ -1,0 +1,232 @@
+-- Nothing is lost in a flat struct: each is read back as the very answer that was flattened, and so equal structs come from equal
+-- answers, of any calls whatever (`check-lossless` to `trace-lossless`).
+-- Assumes nothing.
+use mathlib.Core.Path.{_≡_, refl, sym, _∙_, ap}
+use mathlib.Core.Bool.{Bool, true, false, not}
+use mathlib.Core.List.{List}
+use mathlib.Core.Logic.{inl, inr}
+use Prim.Native.Nat.{ℕ, _≤_}
+use native.Mathlib.Omega.{arith}
+use lib.Dec.{eqb}
+use lib.ListN.{length, getD}
+use borrow.Author.Tests.{ne-eqb, lt-ltb, le-ltb}
+use Rattle.section.specs.declared.row.Base.{Base}
+use Rattle.section.specs.declared.row.Base.the-variants.{Fp, Sp}
+use Rattle.section.specs.declared.row.Place.{Place}
+use Rattle.section.specs.declared.row.Place.the-variants.{Register, AtOffset}
+use Rattle.section.specs.declared.row.Row.{Row}
+use Rattle.accept.specs.Checks.{verdict, verdictNumber, verdictIndex}
+use Rattle.accept.specs.declared.verdict.Verdict.{Verdict}
+use Rattle.accept.specs.declared.verdict.Verdict.the-variants as verdict
+use Rattle.accept.proofs.Exactly.{verdict-number}
+use Rattle.lookup.specs.Answers.{lookupOf, outcomeNumber, outcomeIndexes, outcomeRow}
+use Rattle.lookup.specs.declared.answer.Answer.{Answer}
+use Rattle.lookup.specs.declared.answer.Outcome.{Outcome}
+use Rattle.lookup.specs.declared.answer.Outcome.the-variants as outcome
+use Rattle.lookup.proofs.Exactly as looks
+use Rattle.caller.specs.Caller.{stepIn, stepNumber, stepIndexes, stepRegisters}
+use Rattle.caller.specs.Cases as steps
+use Rattle.caller.specs.declared.registers.Registers.{Registers}
+use Rattle.caller.specs.declared.registers.Step.{Step}
+use Rattle.caller.specs.declared.registers.Step.the-variants as step
+use Rattle.caller.specs.declared.registers.Where.{Where}
+use Rattle.caller.proofs.Exactly.{step-exactly-when}
+use Rattle.caller.proofs.NumberLaws.{Checked, above-15, checked}
+use Rattle.trace.specs.Cases as traces
+use Rattle.trace.specs.Trace.{Trace, walkIn, traceOf, traced, tracedAs, endingNumber, endingIndexes}
+use Rattle.trace.specs.declared.answer.Ending.{Ending}
+use Rattle.trace.specs.declared.answer.Ending.the-variants as ending
+use Rattle.trace.specs.declared.answer.Frame.{Frame}
+use Rattle.trace.specs.declared.answer.Traced.{Traced}
+use Rattle.trace.proofs.Exactly.{some-case}
+use Rattle.suntimpani.specs.Flat.{flatVerdict, baseNumber, placeKind, placeOffset, flag, flatRow, flatAnswer, flatStep, flatTraced, walkedAs, flatTrace}
+use Rattle.suntimpani.specs.Read.{readVerdict, readBase, readPlace, readRow, readOutcome, readAnswer, readStep, readEnding, readTraced, readTrace, VerdictNumbered, OutcomeNumbered, StepNumbered, EndingNumbered}
+
+-- ---- verdicts
+
+pub read-verdict : (v : Verdict) → VerdictNumbered v → readVerdict (flatVerdict v) ≡ v
+unfolding readVerdict flatVerdict verdictNumber verdictIndex
+read-verdict verdict.Accepted numbered = refl
+read-verdict (verdict.Refused number index) numbered =
+    let other : ¬ (number ≡ 0) = λ is. omega (arith, numbered .0, is) in rw (ne-eqb number 0 other, readVerdict) refl
+
+-- ---- rows
+
+read-base : (base : Base) → readBase (baseNumber base) ≡ base
+unfolding readBase baseNumber
+read-base Fp = refl
+read-base Sp = refl
+
+read-place : (place : Place) → readPlace (placeKind place) (placeOffset place .by) ≡ place
+unfolding readPlace placeKind placeOffset
+read-place Register = refl
+read-place (AtOffset offset) = refl
+
+read-flag : (set : Bool) → not (eqb (flag set) 0) ≡ set
+unfolding flag
+read-flag true = refl
+read-flag false = refl
+
+read-row : (number function second compared k : ℕ) (row : Row) → readRow (flatRow number function second compared k row) ≡ row
+unfolding readRow flatRow
+read-row number function second compared k row i =
+    record {
+      start = row .start;
+      base = read-base (row .base) i;
+      cfa = row .cfa;
+      ra = read-place (row .ra) i;
+      fp = read-place (row .fp) i;
+      signed = read-flag (row .signed) i;
+    }
+
+-- ---- lookups
+
+read-outcome : (o : Outcome) (compared : ℕ) → OutcomeNumbered o → readOutcome (flatAnswer (record { outcome = o; compared = compared })) ≡ o
+unfolding readOutcome flatAnswer flatRow outcomeNumber outcomeIndexes outcomeRow
+read-outcome (outcome.Found row function number) compared numbered =
+    ap (λ read. outcome.Found read function number) (read-row 0 function 0 compared number row)
+read-outcome (outcome.Unsound number index) compared numbered =
+    rw (ne-eqb number 0 λ is. omega (arith, numbered .0, is), readOutcome)
+    (rw (ne-eqb number 21 λ is. omega (arith, numbered .1, is))
+    (rw (ne-eqb number 22 λ is. omega (arith, numbered .1, is))
+    (rw (ne-eqb number 23 λ is. omega (arith, numbered .1, is)) refl)))
+read-outcome outcome.NoFunction compared numbered = refl
+read-outcome (outcome.Dispute first second) compared numbered = refl
+read-outcome (outcome.NoRow function) compared numbered = refl
+
+pub read-answer : (answer : Answer) → OutcomeNumbered (answer .outcome) → readAnswer (flatAnswer answer) ≡ answer
+unfolding readAnswer flatAnswer flatRow
+read-answer answer numbered i = record { outcome = read-outcome (answer .outcome) (answer .compared) numbered i; compared = answer .compared }
+
+-- ---- steps
+
+pub read-step : (o : Step) → StepNumbered o → readStep (flatStep o) ≡ o
+unfolding readStep flatStep stepNumber stepIndexes stepRegisters
+read-step (step.Caller caller) numbered = refl
+read-step (step.Unsound old number index) numbered =
+    rw (ne-eqb number 0 λ is. omega (arith, numbered .0, is), readStep) (rw (lt-ltb number 16 (omega (arith, numbered .1))) refl)
+read-step (step.Refused old number) numbered =
+    rw (ne-eqb number 0 λ is. omega (arith, numbered, is), readStep) (rw (le-ltb number 16 numbered) refl)
+
+-- ---- traces
+
+read-ending : (e : Ending) → EndingNumbered e → readEnding (endingNumber e) (getD (endingIndexes e) 0 0) ≡ e
+unfolding readEnding endingNumber endingIndexes
+read-ending ending.Outermost numbered = refl
+read-ending ending.Full numbered = refl
+read-ending (ending.Refused number) numbered =
+    rw (ne-eqb number 30 (numbered .1), readEnding) (rw (ne-eqb number 31 (numbered .2)) (rw (le-ltb number 16 (numbered .0)) refl))
+read-ending (ending.Unsound number index) numbered =
+    rw (ne-eqb number 30 λ is. omega (arith, numbered .1, is), readEnding)
+    (rw (ne-eqb number 31 λ is. omega (arith, numbered .1, is)) (rw (lt-ltb number 16 (omega (arith, numbered .1))) refl))
+
+pub read-traced : (answer : Traced) → EndingNumbered (answer .ending) → readTraced (flatTraced answer) ≡ answer
+unfolding readTraced flatTraced
+read-traced answer numbered i = record { ending = read-ending (answer .ending) numbered i; frames = answer .frames }
+
+pub read-trace : (trace : Trace) → EndingNumbered (trace .answer .ending) → readTrace (flatTrace trace) ≡ trace
+unfolding readTrace flatTrace walkedAs tracedAs
+read-trace trace numbered = ap (λ answer. tracedAs answer (trace .words)) (read-traced (trace .answer) numbered)
+
+-- ---- what each call answers is so numbered
+
+verdict-numbered : (s : List ℕ) → VerdictNumbered (verdict s)
+verdict-numbered s = by (verdict s) refl
+  where
+    by : (v : Verdict) → verdict s ≡ v → VerdictNumbered v
+    by verdict.Accepted is = tt
+    by (verdict.Refused number index) is = verdict-number s number index is
+
+outcome-numbered : (s : List ℕ) (address pc : ℕ) → OutcomeNumbered (lookupOf s address pc .outcome)
+outcome-numbered s address pc = by (lookupOf s address pc .outcome) refl
+  where
+    by : (o : Outcome) → lookupOf s address pc .outcome ≡ o → OutcomeNumbered o
+    by (outcome.Found row function number) is = tt
+    by (outcome.Unsound number index) is = verdict-number s number index (looks.unsound-exactly-when s address pc number index .0 is)
+    by outcome.NoFunction is = tt
+    by (outcome.Dispute first second) is = tt
+    by (outcome.NoRow function) is = tt
+
+module _ (s stack : List ℕ) (lies : Where) (registers : Registers) where
+  step-numbered : StepNumbered (stepIn s stack lies registers)
+  step-numbered = by (stepIn s stack lies registers) (step-exactly-when s stack lies registers _ .0 refl)
+    where
+      by : (o : Step) → steps.Case s stack lies registers o → StepNumbered o
+      by (step.Caller caller) case = tt
+      by (step.Unsound old number index) case = verdict-number s number index (case .2)
+      by (step.Refused old number) case = rw (case .2) (above-15 (case .1))
+
+  -- a number with which a step in a checked section is refused
+  step-refused : (last : Registers) (number : ℕ) → traces.RefusedWith (traces.stepAt s stack lies last) number
+      → (21 ≤ number) × (number ≤ 28)
+  unfolding stepNumber
+  step-refused last number refused = by (traces.stepAt s stack lies last) (checked _ stack lies last s (lies .section)) refused
+    where
+      by : (o : Step) → Checked last o → traces.RefusedWith o number → (21 ≤ number) × (number ≤ 28)
+      by (step.Caller caller) is given = absurd (given .no-caller caller refl)
+      by (step.Refused old other) is given = rw (← given .number-is) (is .1, is .2)
+
+  trace-numbered : (limit : ℕ) (old : List ℕ) → EndingNumbered (traceOf s stack lies registers limit old .answer .ending)
+  unfolding traceOf traced tracedAs
+  trace-numbered limit old =
+      let walk = walkIn s stack lies registers limit (length old) in
+      by (walk .frames) (walk .ending) (some-case s stack lies registers limit old)
+    where
+      in-walk : (number : ℕ) → (21 ≤ number) × (number ≤ 28) → EndingNumbered (ending.Refused number)
+      in-walk number range = (omega (arith, range .0), λ is. omega (arith, range .1, is), λ is. omega (arith, range .1, is))
+
+      at-door : (number : ℕ) → 41 ≤ number → EndingNumbered (ending.Refused number)
+      at-door number least = (omega (arith, least), λ is. omega (arith, least, is), λ is. omega (arith, least, is))
+
+      by : (frames : List Frame) (e : Ending) → traces.Case s stack lies registers limit old frames e → EndingNumbered e
+      by frames ending.Outermost case = tt
+      by frames ending.Full case = tt
+      by frames (ending.Refused number) (inl (none, inl door)) = at-door number (omega (arith, door .0))
+      by frames (ending.Refused number) (inl (none, inr (inl door))) = at-door number (omega (arith, door .0))
+      by frames (ending.Refused number) (inl (none, inr (inr door))) = at-door number (omega (arith, door .0))
+      by frames (ending.Refused number) (inr walks) = in-walk number (step-refused _ number (walks .walk .ends .2))
+      by frames (ending.Unsound number index) case = verdict-number s number index (case .2)
+
+-- ---- so each struct is read back as the answer that it stands for
+
+pub check-read-back : (s : List ℕ) → readVerdict (flatVerdict (verdict s)) ≡ verdict s
+check-read-back s = read-verdict (verdict s) (verdict-numbered s)
+
+pub lookup-read-back : (s : List ℕ) (address pc : ℕ) → readAnswer (flatAnswer (lookupOf s address pc)) ≡ lookupOf s address pc
+lookup-read-back s address pc = read-answer (lookupOf s address pc) (outcome-numbered s address pc)
+
+pub caller-read-back : (s stack : List ℕ) (lies : Where) (registers : Registers)
+    → readStep (flatStep (stepIn s stack lies registers)) ≡ stepIn s stack lies registers
+caller-read-back s stack lies registers = read-step (stepIn s stack lies registers) (step-numbered s stack lies registers)
+
+pub trace-read-back : (s stack : List ℕ) (lies : Where) (registers : Registers) (limit : ℕ) (old : List ℕ)
+    → readTrace (flatTrace (traceOf s stack lies registers limit old)) ≡ traceOf s stack lies registers limit old
+trace-read-back s stack lies registers limit old =
+    read-trace (traceOf s stack lies registers limit old) (trace-numbered s stack lies registers limit old)
+
+-- ---- and equal structs come from equal answers
+
+lossless : {A B : Type 0} (flat : A → B) (read : B → A) (one other : A) → read (flat one) ≡ one → read (flat other) ≡ other
+    → flat one ≡ flat other → one ≡ other
+lossless flat read one other back also same = sym back ∙ ap read same ∙ also
+
+pub check-lossless : (s t : List ℕ) → flatVerdict (verdict s) ≡ flatVerdict (verdict t) → verdict s ≡ verdict t
+check-lossless s t = lossless flatVerdict readVerdict (verdict s) (verdict t) (check-read-back s) (check-read-back t)
+
+pub lookup-lossless : (s t : List ℕ) (address other pc also : ℕ)
+    → flatAnswer (lookupOf s address pc) ≡ flatAnswer (lookupOf t other also) → lookupOf s address pc ≡ lookupOf t other also
+lookup-lossless s t address other pc also =
+    lossless flatAnswer readAnswer _ _ (lookup-read-back s address pc) (lookup-read-back t other also)
+
+pub caller-lossless : (s t stack window : List ℕ) (lies elsewhere : Where) (registers others : Registers)
+    → flatStep (stepIn s stack lies registers) ≡ flatStep (stepIn t window elsewhere others)
+    → stepIn s stack lies registers ≡ stepIn t window elsewhere others
+caller-lossless s t stack window lies elsewhere registers others =
+    lossless flatStep readStep _ _ (caller-read-back s stack lies registers) (caller-read-back t window elsewhere others)
+
+-- the frames, the ending and every word of the buffer
+pub trace-lossless : (s t stack window : List ℕ) (lies elsewhere : Where) (registers others : Registers) (limit most : ℕ) (old held : List ℕ)
+    → flatTrace (traceOf s stack lies registers limit old) ≡ flatTrace (traceOf t window elsewhere others most held)
+    → traceOf s stack lies registers limit old ≡ traceOf t window elsewhere others most held
+trace-lossless s t stack window lies elsewhere registers others limit most old held =
+    lossless flatTrace readTrace _ _ (trace-read-back s stack lies registers limit old) (trace-read-back t window elsewhere others most held)
