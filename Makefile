@@ -1,45 +1,16 @@
 # The commands of the repository; `make` alone lists them.
-.PHONY: help test run cases reader bench fmt
+.PHONY: help test run lib install cases reader soak bench fmt
 
 help:
-	@echo "make test   the gate: proofs, must-fail edits, programs, and the library against the reader (bash .ci/run)"
-	@echo "make run    prove, build and run what there is to show, and print what it writes"
-	@echo "make cases  make the stored cases and their expected output anew, by the independent reader"
-	@echo "make reader the independent reader by itself: its own tests, and the public dumps"
-	@echo "make bench  time checks, lookups and traces, by the static library and by the independent reader"
-	@echo "make fmt    lay every source and proof file out"
+	@echo "make run      prove and build the program sframe, and trace a recorded crash with it"
+	@echo "make test     the gate: proofs, must-fail edits, programs, and the library against the reader (bash .ci/run)"
+	@echo "make lib      prove the library and build target/staticlib/libsuntimpani.a"
+	@echo "make install  put archive, header and pkg-config file below PREFIX (/usr/local)"
+	@echo "make soak     compare the library with the reader for longer: N=1000000 sections, SEED=.. to repeat a run"
+	@echo "make bench    one table: the library's time against the reader's, and its use of the stack"
+	@echo "make cases    make the stored cases and their expected output anew, by the independent reader"
+	@echo "make reader   the independent reader by itself: its own tests, and the public dumps"
+	@echo "make fmt      lay every source and proof file out"
 
 test:
 	bash .ci/run
-
-# What rt says is shown only where something failed.
-run:
-	@said=$$(rt check fields replay 2>&1) || { echo "$$said"; exit 1; }
-	@cd crates/fields/data && ../../../target/bin/fields
-	@echo
-	@echo "lookups in section S, K4 to K7 of document 01: its address, the PC, and the answer"
-	@cd crates/replay/data && ../../../target/bin/replay | sed -n '/^K1_S/,/^K2_S/p' | grep -E '^  0+400000 0+4(01003|01004|0101f|00fff|01020|0103f|01040) '
-	@echo
-	@echo "callers and traces in section S, K10 to K12 of document 01: registers (PC, SP, FP, LR, the mark), the caller's or the"
-	@echo "refusal, and the trace with CFA, RA and FP of each frame"
-	@cd crates/replay/data && ../../../target/bin/replay | sed -n '/^K1_S/,/^K2_S/p' | sed -n '/^  from/,/^K2_S/p' | grep '^  '
-	@echo
-	@echo "the verdicts on section S and on the sections of public assemblers"
-	@cd crates/replay/data && ../../../target/bin/replay | grep -v '^  ' | sed -n '1,19p'
-
-cases:
-	cd tests && cargo run --quiet --release --offline --locked --bin cases -- write
-
-reader:
-	cd tests && cargo test --release --offline --locked
-
-bench:
-	@said=$$(rt staticlib suntimpani 2>&1) || { echo "$$said"; exit 1; }
-	@said=$$(rt staticlib measure 2>&1) || { echo "$$said"; exit 1; }
-	cd tests && cargo run --quiet --release --offline --locked --features library --bin bench_check
-	cd tests && cargo run --quiet --release --offline --locked --features library --bin bench_trace
-	cd tests && cargo run --quiet --release --offline --locked --features measure --bin bench_find
-
-fmt:
-	rt fmt
-	cd tests && cargo fmt

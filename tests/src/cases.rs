@@ -24,6 +24,7 @@ mod marks;
 mod overlaps;
 mod precedence;
 pub(crate) mod questions;
+mod recorded;
 mod relative;
 mod rows;
 mod sizes;
@@ -113,6 +114,7 @@ pub fn all() -> Vec<Case> {
         limits::all(),
         depths::all(),
         chains::all(),
+        recorded::all(),
     ];
     let mut cases: Vec<Case> = groups.into_iter().flatten().collect();
     ask_of_refused(&mut cases);

@@ -280,3 +280,13 @@ fn verdicts_are_those_of_the_readme() {
     }
     assert_eq!(names, CORPUS_VERDICTS.len());
 }
+
+// The section that the crash recorder wrote of itself: vectors/recorder, beside the corpus.
+#[test]
+fn the_recorded_section_is_as_shown() {
+    let recorded = "../../recorder/section";
+    let dump = Dump::of(recorded).expect("a dump");
+    let found = functions(&corpus_section(recorded));
+    assert_eq!(found.len(), 17);
+    compare(recorded, &dump, &found);
+}

@@ -1,0 +1,82 @@
+//! Prints a trace as a table: of a small section, or of files and numbers given as arguments.
+//!
+//!     cargo run --example trace
+//!     cargo run --example trace -- SECTION ADDRESS STACK STACK_ADDRESS PC SP FP
+//!
+//! SECTION and STACK are files with raw bytes; numbers are hexadecimal.
+
+use std::process::ExitCode;
+use std::{env, fs};
+use suntimpani::example::SECTION_S;
+use suntimpani::{frames, trace, Registers, Where};
+
+/// All that is lent for a trace.
+struct Crash {
+    section: Vec<u8>,
+    stack: Vec<u8>,
+    lies: Where,
+    registers: Registers,
+}
+
+fn main() -> ExitCode {
+    let arguments: Vec<String> = env::args().skip(1).collect();
+    let crash = match &arguments[..] {
+        [] => Ok(small()),
+        given => from(given),
+    };
+    match crash {
+        Ok(crash) => {
+            print(&crash);
+            ExitCode::SUCCESS
+        }
+        Err(fault) => {
+            eprintln!("trace: {fault}");
+            ExitCode::FAILURE
+        }
+    }
+}
+
+fn print(crash: &Crash) {
+    const LIMIT: usize = 64;
+    let mut words = [0; 3 * LIMIT];
+    let traced = trace(&crash.section, &crash.stack, crash.lies, crash.registers, LIMIT as u64, &mut words);
+    println!("frame  CFA               RA                FP");
+    for (number, frame) in frames(&words, traced.frames).enumerate() {
+        println!("{number:>5}  {:016x}  {:016x}  {:016x}", frame.cfa, frame.ra, frame.fp);
+    }
+    println!("frames: {}", traced.frames);
+    println!("ended: {}", traced.ending);
+}
+
+// A crash in the second function of section S, which the first called.
+fn small() -> Crash {
+    let mut stack = vec![0; 64];
+    stack[..8].copy_from_slice(&0x40_1008_u64.to_le_bytes());
+    Crash {
+        section: SECTION_S.to_vec(),
+        stack,
+        lies: Where { section_address: 0x40_0000, stack_address: 0x7000 },
+        registers: Registers { pc: 0x40_1044, sp: 0x7000, fp: 0x7030, lr: 0, first: true },
+    }
+}
+
+fn from(given: &[String]) -> Result<Crash, String> {
+    let [section, address, stack, stack_address, pc, sp, fp] = given else {
+        return Err("the arguments are SECTION ADDRESS STACK STACK_ADDRESS PC SP FP".to_string());
+    };
+    Ok(Crash {
+        section: bytes_of(section)?,
+        stack: bytes_of(stack)?,
+        lies: Where { section_address: number(address)?, stack_address: number(stack_address)? },
+        registers: Registers { pc: number(pc)?, sp: number(sp)?, fp: number(fp)?, lr: 0, first: true },
+    })
+}
+
+fn bytes_of(path: &str) -> Result<Vec<u8>, String> {
+    fs::read(path).map_err(|error| format!("{path}: {error}"))
+}
+
+fn number(shown: &str) -> Result<u64, String> {
+    let digits = shown.strip_prefix("0x").unwrap_or(shown);
+    u64::from_str_radix(digits, 16).map_err(|_| format!("'{shown}' is not a hexadecimal number"))
+}

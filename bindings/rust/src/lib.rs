@@ -1,0 +1,65 @@
+//! Reads `.sframe` unwind tables (SFrame version 2; AMD64, and AArch64 in both byte orders) and walks a crashed
+//! program's stack, with every answer proved.
+//!
+//! You lend a section, registers, a stack window and a buffer. [`check`] says whether the section is sound, [`lookup`]
+//! which function and row cover a PC, [`Registers::step`] what the caller's registers are, and [`trace`] what the whole
+//! trace is. Any bytes and any numbers may be handed in: every call ends, and an answer that cannot be given is a
+//! refusal with its number.
+//!
+//! Nothing is allocated and nothing is kept, so that all of it may be called in a signal handler. The crate needs
+//! neither `std` nor an allocator.
+//!
+//! ```
+//! use suntimpani::example::SECTION_S;
+//! use suntimpani::{frames, trace, Ending, Registers, Where};
+//!
+//! let mut stack = [0; 64];
+//! stack[..3].copy_from_slice(&[0x08, 0x10, 0x40]);
+//! let lies = Where { section_address: 0x40_0000, stack_address: 0x7000 };
+//! let crash = Registers { pc: 0x40_1044, sp: 0x7000, fp: 0x7030, lr: 0, first: true };
+//! let mut words = [0; 3 * 64];
+//! let traced = trace(&SECTION_S, &stack, lies, crash, 64, &mut words);
+//! assert_eq!(traced.ending, Ending::Outermost);
+//! let returns: Vec<u64> = frames(&words, traced.frames).map(|frame| frame.ra).collect();
+//! assert_eq!(returns, [0x40_1008, 0]);
+//! ```
+#![no_std]
+#![deny(unsafe_code)]
+#![warn(missing_docs)]
+
+#[allow(unsafe_code)]
+mod calls;
+pub mod example;
+mod look;
+mod refusal;
+mod walk;
+
+pub use look::{lookup, Answer, Base, Outcome, Place, Row};
+pub use refusal::{Refusal, Rule, Unsound};
+pub use walk::{frames, trace, Ending, Frame, Registers, Step, Traced, Where};
+
+/// What [`check`] answers.
+#[derive(Clone, Copy, Debug, PartialEq, Eq)]
+pub enum Verdict {
+    /// The section obeys every rule.
+    Accepted,
+    /// It breaks one.
+    Refused(Unsound),
+}
+
+/// Is the section sound? [`lookup`], [`Registers::step`] and [`trace`] ask this first by themselves.
+///
+/// ```
+/// use suntimpani::example::SECTION_S;
+/// use suntimpani::{check, Rule, Unsound, Verdict};
+///
+/// assert_eq!(check(&SECTION_S), Verdict::Accepted);
+/// assert_eq!(check(&SECTION_S[..77]), Verdict::Refused(Unsound { rule: Rule::Sizes, index: 0 }));
+/// ```
+pub fn check(section: &[u8]) -> Verdict {
+    let said = calls::check(section);
+    match said.number {
+        0 => Verdict::Accepted,
+        number => Verdict::Refused(Unsound::of(number, said.index)),
+    }
+}

@@ -1,0 +1,226 @@
+//! One caller, and the whole trace.
+
+use crate::calls;
+use crate::refusal::{Refusal, Unsound};
+use core::fmt::{self, Display, Formatter};
+
+/// Where the lent bytes lie in the memory of the program that crashed, which need not be this one.
+#[derive(Clone, Copy, Debug, PartialEq, Eq)]
+pub struct Where {
+    /// The address of the section's first byte.
+    pub section_address: u64,
+    /// The address of the stack window's first byte, the lowest one.
+    pub stack_address: u64,
+}
+
+/// Registers; each may have any value. On AMD64 they are RIP, RSP and RBP, and LR is not read.
+#[derive(Clone, Copy, Debug, PartialEq, Eq)]
+pub struct Registers {
+    /// The program counter.
+    pub pc: u64,
+    /// The stack pointer.
+    pub sp: u64,
+    /// The frame pointer.
+    pub fp: u64,
+    /// The link register, X30 on AArch64.
+    pub lr: u64,
+    /// The first-frame mark: the registers are those of the crash.
+    pub first: bool,
+}
+
+/// What [`Registers::step`] answers.
+#[derive(Clone, Copy, Debug, PartialEq, Eq)]
+pub enum Step {
+    /// The caller's registers, without the mark.
+    Caller(Registers),
+    /// 1 to 15: the section is refused.
+    Unsound {
+        /// The registers that were handed in.
+        old: Registers,
+        /// What the section breaks.
+        unsound: Unsound,
+    },
+    /// 21 to 28 or 41: there is no caller to be had.
+    Refused {
+        /// The registers that were handed in.
+        old: Registers,
+        /// Why.
+        refusal: Refusal,
+    },
+}
+
+/// What [`trace`] answers besides the words of the buffer.
+#[derive(Clone, Copy, Debug, PartialEq, Eq)]
+pub struct Traced {
+    /// How many frames were written.
+    pub frames: u64,
+    /// Why there are no more.
+    pub ending: Ending,
+}
+
+/// Why a trace ended.
+#[derive(Clone, Copy, Debug, PartialEq, Eq)]
+pub enum Ending {
+    /// 30: the last frame's RA is 0, it is the outermost.
+    Outermost,
+    /// 31: the limit is full, and the last frame's RA is not 0.
+    Full,
+    /// 21 to 28, which the next step met; or 41 to 43, after which nothing is written.
+    Refused(Refusal),
+    /// 1 to 15: the section is refused, and nothing is written.
+    Unsound(Unsound),
+}
+
+/// A frame of a trace.
+#[derive(Clone, Copy, Debug, PartialEq, Eq)]
+pub struct Frame {
+    /// The canonical frame address: SP of the caller.
+    pub cfa: u64,
+    /// The return address: PC of the caller.
+    pub ra: u64,
+    /// FP of the caller.
+    pub fp: u64,
+}
+
+impl Registers {
+    /// The caller's registers, or the same registers with a refusal.
+    ///
+    /// ```
+    /// use suntimpani::example::SECTION_S;
+    /// use suntimpani::{Registers, Step, Where};
+    ///
+    /// let lies = Where { section_address: 0x40_0000, stack_address: 0x7000 };
+    /// let crash = Registers { pc: 0x40_1044, sp: 0x7000, fp: 0x7030, lr: 0, first: true };
+    /// let stack = 0x40_1008_u64.to_le_bytes();
+    /// let Step::Caller(caller) = crash.step(&SECTION_S, &stack, lies) else { panic!("a caller") };
+    /// assert_eq!((caller.pc, caller.sp, caller.fp), (0x40_1008, 0x7008, 0x7030));
+    /// // The next frame's words lie above these eight bytes.
+    /// assert_eq!(caller.step(&SECTION_S, &stack, lies).number(), 28);
+    /// ```
+    pub fn step(self, section: &[u8], stack: &[u8], lies: Where) -> Step {
+        let said = calls::caller(section, stack, lies.flat(), self.flat());
+        match (said.number, Refusal::of(said.number)) {
+            (0, _) => Step::Caller(Registers::of(&said.registers)),
+            // By the library's contract: a step has neither a limit nor a buffer.
+            (number @ (42 | 43), _) => unreachable!("{number} is for traces alone"),
+            (_, Some(refusal)) => Step::Refused { old: self, refusal },
+            (number, None) => Step::Unsound { old: self, unsound: Unsound::of(number, said.index) },
+        }
+    }
+
+    fn flat(self) -> calls::Registers {
+        let Registers { pc, sp, fp, lr, first } = self;
+        calls::Registers { pc, sp, fp, lr, first: u64::from(first) }
+    }
+
+    fn of(flat: &calls::Registers) -> Registers {
+        Registers { pc: flat.pc, sp: flat.sp, fp: flat.fp, lr: flat.lr, first: flat.first != 0 }
+    }
+}
+
+impl Where {
+    fn flat(self) -> calls::Where {
+        calls::Where { section_address: self.section_address, stack_address: self.stack_address }
+    }
+}
+
+impl Step {
+    /// The number of the refusal, or 0 where there is a caller.
+    ///
+    /// ```
+    /// use suntimpani::example::SECTION_S;
+    /// use suntimpani::{Registers, Where};
+    ///
+    /// let lies = Where { section_address: 0x40_0000, stack_address: 0x7000 };
+    /// let crash = Registers { pc: 0x40_1044, sp: 0x7000, fp: 0x7030, lr: 0, first: true };
+    /// assert_eq!(crash.step(&SECTION_S, &[0; 8], lies).number(), 0);
+    /// assert_eq!(crash.step(&SECTION_S, &[], lies).number(), 28);
+    /// ```
+    pub fn number(self) -> u64 {
+        match self {
+            Step::Caller(_) => 0,
+            Step::Unsound { unsound, .. } => unsound.number(),
+            Step::Refused { refusal, .. } => refusal.number(),
+        }
+    }
+}
+
+/// The whole trace from the registers of the crash, whatever their mark. Limit 0 means 64; otherwise it is 1 to 256.
+///
+/// The buffer has at least 3 words for each frame of the limit: 192 for limit 0. [`frames`] reads it. Every word behind
+/// the frames that the answer counts keeps what it held.
+///
+/// ```
+/// use suntimpani::example::SECTION_S;
+/// use suntimpani::{trace, Ending, Refusal, Registers, Where};
+///
+/// let lies = Where { section_address: 0x40_0000, stack_address: 0x7000 };
+/// let crash = Registers { pc: 0x40_1044, sp: 0x7000, fp: 0x7030, lr: 0, first: true };
+/// let mut words = [9; 6];
+/// let traced = trace(&SECTION_S, &[0; 64], lies, crash, 2, &mut words);
+/// assert_eq!((traced.frames, traced.ending), (1, Ending::Outermost));
+/// assert_eq!(words, [0x7008, 0, 0x7030, 9, 9, 9]);
+///
+/// let traced = trace(&SECTION_S, &[0; 64], lies, crash, 3, &mut words);
+/// assert_eq!(traced.ending, Ending::Refused(Refusal::TooFewWords));
+/// ```
+pub fn trace(
+    section: &[u8],
+    stack: &[u8],
+    lies: Where,
+    registers: Registers,
+    limit: u64,
+    buffer: &mut [u64],
+) -> Traced {
+    let said = calls::trace(section, stack, lies.flat(), registers.flat(), limit, buffer);
+    let ending = match (said.ending, Refusal::of(said.ending)) {
+        (30, _) => Ending::Outermost,
+        (31, _) => Ending::Full,
+        (_, Some(refusal)) => Ending::Refused(refusal),
+        (number, None) => Ending::Unsound(Unsound::of(number, said.index)),
+    };
+    Traced { frames: said.frames, ending }
+}
+
+/// The first frames of a buffer that [`trace`] wrote, innermost first, as many as it counted.
+///
+/// ```
+/// use suntimpani::{frames, Frame};
+///
+/// let words = [0x7008, 0x40_1008, 0x7030, 0x7040, 0, 0, 9, 9, 9];
+/// let all: Vec<Frame> = frames(&words, 2).collect();
+/// assert_eq!(all[0], Frame { cfa: 0x7008, ra: 0x40_1008, fp: 0x7030 });
+/// assert_eq!(all.len(), 2);
+/// ```
+pub fn frames(buffer: &[u64], count: u64) -> impl Iterator<Item = Frame> + '_ {
+    let frame = |words: &[u64]| Frame { cfa: words[0], ra: words[1], fp: words[2] };
+    // A count that no usize holds is more than any buffer has.
+    buffer.chunks_exact(3).take(usize::try_from(count).unwrap_or(usize::MAX)).map(frame)
+}
+
+impl Ending {
+    /// The ending's number.
+    ///
+    /// ```
+    /// assert_eq!(suntimpani::Ending::Outermost.number(), 30);
+    /// ```
+    pub fn number(self) -> u64 {
+        match self {
+            Ending::Outermost => 30,
+            Ending::Full => 31,
+            Ending::Refused(refusal) => refusal.number(),
+            Ending::Unsound(unsound) => unsound.number(),
+        }
+    }
+}
+
+impl Display for Ending {
+    fn fmt(&self, out: &mut Formatter<'_>) -> fmt::Result {
+        match self {
+            Ending::Outermost => write!(out, "30, RA is 0: the outermost frame"),
+            Ending::Full => write!(out, "31, the limit is full"),
+            Ending::Refused(refusal) => write!(out, "{refusal}"),
+            Ending::Unsound(unsound) => write!(out, "{unsound}"),
+        }
+    }
+}

@@ -1,0 +1,85 @@
+/* Writes a crash to a folder, so that it can be walked again: the section, the stack window, the numbers beside them,
+ * and the frames as the program expected them. The names are put together before the crash; what is called in the
+ * handler is open, write and close. */
+#include <fcntl.h>
+#include <stdio.h>
+#include <string.h>
+#include <unistd.h>
+
+#include "recorder.h"
+
+enum { SECTION_FILE, STACK_FILE, RUN_FILE, FRAMES_FILE, FILES };
+
+static const char *const names[FILES] = {"section.sframe", "stack.bin", "run.txt", "frames.txt"};
+
+static char paths[FILES][4096];
+
+/* 0 where a name would be too long. */
+int prepare_record(const char *folder) {
+    int file, fits = 1;
+    for (file = 0; file < FILES; file++) {
+        int length = snprintf(paths[file], sizeof paths[file], "%s/%s", folder, names[file]);
+        fits = fits && length > 0 && (size_t)length < sizeof paths[file];
+    }
+    return fits;
+}
+
+static int open_new(int file) {
+    return open(paths[file], O_WRONLY | O_CREAT | O_TRUNC, 0644);
+}
+
+static int write_bytes(int file, lent_bytes lent) {
+    int opened = open_new(file);
+    ssize_t written;
+    if (opened < 0) {
+        return 0;
+    }
+    written = write(opened, lent.bytes, lent.length);
+    return close(opened) == 0 && written == (ssize_t)lent.length;
+}
+
+static void say_named(int file, const char *name, uint64_t word) {
+    say(file, name);
+    say(file, " ");
+    say_word(file, word);
+    say(file, "\n");
+}
+
+static int write_run(const crash *seen) {
+    int file = open_new(RUN_FILE);
+    if (file < 0) {
+        return 0;
+    }
+    say_named(file, "section_address", (uint64_t)(uintptr_t)seen->section.bytes);
+    say_named(file, "stack_address", (uint64_t)(uintptr_t)seen->stack.bytes);
+    say_named(file, "pc", seen->registers.pc);
+    say_named(file, "sp", seen->registers.sp);
+    say_named(file, "fp", seen->registers.fp);
+    say_named(file, "lr", seen->registers.lr);
+    say_named(file, "limit", LIMIT);
+    say_named(file, "frames", FRAMES);
+    say_named(file, "ending", OUTSIDE);
+    return close(file) == 0;
+}
+
+static int write_frames(const crash *seen) {
+    int number, file = open_new(FRAMES_FILE);
+    if (file < 0) {
+        return 0;
+    }
+    for (number = 0; number < FRAMES; number++) {
+        say_word(file, seen->expected[number].cfa);
+        say(file, " ");
+        say_word(file, seen->expected[number].ra);
+        say(file, " ");
+        say_word(file, seen->expected[number].fp);
+        say(file, "\n");
+    }
+    return close(file) == 0;
+}
+
+/* 0 where a file cannot be written. */
+int write_record(const crash *seen) {
+    return write_bytes(SECTION_FILE, seen->section) && write_bytes(STACK_FILE, seen->stack) && write_run(seen) &&
+           write_frames(seen);
+}

@@ -1,0 +1,191 @@
+/* Suntimpani: reads `.sframe` unwind tables and walks a crashed program's stack, with every answer proved.
+ *
+ * You lend it the bytes of an `.sframe` section (SFrame version 2 with errata 1; AMD64, and AArch64 in both byte
+ * orders), registers, a stack window and a buffer. It says whether the section is sound (suntimpani_check), which
+ * function and row cover a PC (suntimpani_lookup), what one caller's registers are (suntimpani_caller), and what the
+ * whole trace is (suntimpani_trace). Any bytes and any numbers may be handed in: nothing outside what is lent is read,
+ * every call ends, and an answer that cannot be given is a refusal with a number and a rule.
+ *
+ *     cc program.c -lsuntimpani
+ *
+ * SPDX-License-Identifier: MIT
+ *
+ *
+ * What is lent
+ *
+ * Nothing is allocated, nothing is kept after a call returns, and there is no state. So all four functions may be
+ * called in a signal handler, on a small alternate stack, and from several threads at once. What you lend stays yours;
+ * only the buffer of suntimpani_trace is written to.
+ *
+ * A pointer with a length above 0 points to that many bytes that can be read; the buffer to that many words that can be
+ * written, aligned for uint64_t and overlapping neither the section nor the stack. No other thread writes to them
+ * during the call. With length 0 any pointer will do, also NULL. Sections and stacks need no alignment.
+ *
+ * The section is `.sframe` as it lies in a loaded program or in its file, with exactly its own length. On Linux a
+ * program finds its own by dl_iterate_phdr, as the segment of type 0x6474e554 (PT_GNU_SFRAME). GNU ld 2.44 makes that
+ * segment longer than the section where it merged several; the section's length is then 28, plus byte 7, plus 20 times
+ * the number of 4 bytes at 8, plus the number of 4 bytes at 16.
+ *
+ * The stack window is the live stack, from SP upwards. On AMD64 let it begin 8 bytes below SP where you can: the row
+ * at a `ret` may place FP there.
+ *
+ * A lookup, a caller and a trace each check the section first, and a trace checks it once. A check reads every row of
+ * every function, so its time grows with them. Functions may share rows, so a section that was made to be slow can ask
+ * for far more time than its length tells.
+ *
+ *
+ * Numbers
+ *
+ * Every answer has a number: 0 where what was asked for is given, else the rule that is the first broken one, in this
+ * order of trying. "Entry" is a function's entry in the section's function table; indexes count from 0.
+ *
+ * By all four functions, on the section. 9 to 14 have the index of the entry that breaks the rule; the index of 1 to 8
+ * and of 15 is 0.
+ *
+ *      1  the section has fewer than 28 bytes
+ *      2  it has more than 16,777,216 bytes
+ *      3  its magic is neither byte order's
+ *      4  its version is not 2
+ *      5  a flag outside 0x07 is set
+ *      6  the ABI is not 1 (AArch64, big-endian), 2 (AArch64, little-endian) or 3 (AMD64), or disagrees with the byte
+ *         order
+ *      7  the fixed FP and RA offsets are not 0 and -8 (AMD64), or 0 and 0 (AArch64)
+ *      8  the function table offset is not 0, or the row area offset is not 20 times the number of functions, or
+ *         header, auxiliary header, function table and row bytes together are not the length
+ *      9  an entry's info has bit 6 or 7 set, or a row type above 2
+ *     10  an entry has repeated blocks (PCMASK) of size 0
+ *     11  an entry's first row offset is above the row bytes, or one of its rows ends past them
+ *     12  a row's info has offset size 3, or a count that is not allowed (AMD64: 1 or 2; AArch64: 1 to 3)
+ *     13  a row's start is not above that of the row before it in the same function
+ *     14  the sorted flag is set, and an entry's start is below the start plus size of the entry before it
+ *     15  the row counts of all entries do not add up to the header's
+ *
+ * By lookup, caller and trace, on the PC:
+ *
+ *     21  no function covers the PC
+ *     22  two or more functions cover it
+ *     23  one function covers it, and none of its rows starts at or below the PC
+ *
+ * By caller and trace, on the registers and the stack. CFA is the value of SP in the caller, RA the return address:
+ *
+ *     24  the return address is signed (AArch64)
+ *     25  CFA is outside 0 to 2^64 - 1
+ *     26  CFA is below SP, or equal to SP without the first-frame mark
+ *     27  RA has no place: the row leaves it in LR, and only the first frame has it there (AArch64)
+ *     28  a word that is needed is not wholly inside the stack window
+ *     41  the stack window ends above 2^64 (tried before anything else)
+ *
+ * By trace alone. 42 and 43 are tried right after 41, before the section; 30 and 31 are how a whole trace ends:
+ *
+ *     30  the last frame's RA is 0: it is the outermost frame
+ *     31  the limit is full, and the last frame's RA is not 0
+ *     42  the limit is above 256
+ *     43  the buffer has fewer than 3 words for each frame of the limit
+ *
+ *
+ * Example: walk from the registers of a crash, at most 64 frames, and print what was found.
+ *
+ *     uint64_t words[3 * 64];
+ *     suntimpani_where where = { section_address, stack_address };
+ *     suntimpani_registers crash = { pc, sp, fp, 0, 1 };
+ *     suntimpani_traced traced =
+ *         suntimpani_trace(section, length, stack, stack_length, where, crash, 64, words, 3 * 64);
+ *     for (uint64_t frame = 0; frame < traced.frames; frame++) {
+ *         printf("CFA %" PRIx64 ", returns to %" PRIx64 "\n", words[3 * frame], words[3 * frame + 1]);
+ *     }
+ *     printf("%" PRIu64 " frames, ended by %" PRIu64 "\n", traced.frames, traced.ending);
+ */
+#ifndef SUNTIMPANI_H
+#define SUNTIMPANI_H
+
+#include <stddef.h>
+#include <stdint.h>
+
+#ifdef __cplusplus
+extern "C" {
+#endif
+
+/* What a check answers. */
+typedef struct {
+    uint64_t number; /* 0: accepted; or 1 to 15 */
+    uint64_t index;  /* the entry's index for 9 to 14; otherwise 0 */
+} suntimpani_verdict;
+
+/* What a lookup answers. A field that the list does not name for a number is 0.
+ *
+ *     0         every field but `second`
+ *     1 to 15   `function`, the index that a check gives
+ *     21        `compared`
+ *     22        `function`, `second`, `compared`
+ *     23        `function`, `compared`
+ */
+typedef struct {
+    uint64_t number;    /* 0: found; or 1 to 15, 21, 22, 23 */
+    uint64_t function;  /* the function's index; for 22 the lowest of those that cover the PC */
+    uint64_t second;    /* for 22 the second lowest */
+    uint64_t compared;  /* entries compared: all where the section is not sorted, at most 20 where it is */
+    uint64_t row;       /* the row's number in the function, from 0 */
+    uint64_t start;     /* where the row starts, in bytes from the function's start (or from its repeated block's) */
+    uint64_t base;      /* what CFA counts from: 0 FP, 1 SP */
+    int64_t cfa;        /* CFA is the base plus this */
+    uint64_t ra_place;  /* where RA is: 0 in LR, 1 in the word at CFA plus `ra` (AMD64: always, with -8) */
+    int64_t ra;         /* that offset; 0 where `ra_place` is 0 */
+    uint64_t fp_place;  /* where the caller's FP is: 0 still in FP, 1 in the word at CFA plus `fp` */
+    int64_t fp;         /* that offset; 0 where `fp_place` is 0 */
+    uint64_t signed_ra; /* 1 where RA is signed (AArch64), otherwise 0 */
+} suntimpani_answer;
+
+/* Where the lent bytes lie in the memory of the program that crashed, which need not be this one. */
+typedef struct {
+    uint64_t section_address; /* of the section's first byte */
+    uint64_t stack_address;   /* of the stack window's first byte, the lowest address */
+} suntimpani_where;
+
+/* Registers; each may have any value. On AMD64 they are RIP, RSP and RBP, and `lr` is not read. */
+typedef struct {
+    uint64_t pc;
+    uint64_t sp;
+    uint64_t fp;
+    uint64_t lr;    /* AArch64: X30 */
+    uint64_t first; /* the first-frame mark: not 0 where the registers are the crashed function's own */
+} suntimpani_registers;
+
+/* What a step to the caller answers. */
+typedef struct {
+    suntimpani_registers registers; /* number 0: the caller's, `lr` as handed in and `first` 0; else as handed in */
+    uint64_t number;                /* 0: a caller; or 1 to 15, 21 to 28, 41 */
+    uint64_t index;                 /* the entry's index for 9 to 14; otherwise 0 */
+} suntimpani_step;
+
+/* What a trace answers besides the words of the buffer. */
+typedef struct {
+    uint64_t frames; /* how many were written; 0 for 1 to 15 and 41 to 43 */
+    uint64_t ending; /* why it ended: 30 or 31; 21 to 28, which the next step met; 1 to 15; 41 to 43. Never 0. */
+    uint64_t index;  /* the entry's index for 9 to 14; otherwise 0 */
+} suntimpani_traced;
+
+/* Is the section sound? The other three ask this first by themselves. */
+suntimpani_verdict suntimpani_check(const uint8_t *section, size_t length);
+
+/* The function and the row for a PC, in a section whose first byte lies at `address`. */
+suntimpani_answer suntimpani_lookup(const uint8_t *section, size_t length, uint64_t address, uint64_t pc);
+
+/* One caller. Hand `first` in as 1 for the registers of the crash, and take the answer's registers for the next step:
+ * their `first` is 0. On a refusal the registers come back exactly as they were, `first` included. */
+suntimpani_step suntimpani_caller(const uint8_t *section, size_t length, const uint8_t *stack, size_t stack_length,
+                                  suntimpani_where where, suntimpani_registers registers);
+
+/* The whole trace from the registers of the crash, whatever their `first`. Limit 0 means 64; otherwise it is 1 to 256.
+ *
+ * The buffer has at least 3 words of 64 bits for each frame of the limit: 192 for limit 0, 768 for 256. `words` is how
+ * many it has. Frame i is words 3i, 3i + 1 and 3i + 2: CFA, RA and the caller's FP. Every word behind the frames that
+ * the answer counts keeps what it held; after 1 to 15 and 41 to 43 that is every word. */
+suntimpani_traced suntimpani_trace(const uint8_t *section, size_t length, const uint8_t *stack, size_t stack_length,
+                                   suntimpani_where where, suntimpani_registers registers, uint64_t limit,
+                                   uint64_t *buffer, size_t words);
+
+#ifdef __cplusplus
+}
+#endif
+
+#endif

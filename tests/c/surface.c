@@ -1,0 +1,264 @@
+/* The C surface, called from C: the layout of every struct, K1 to K12 of document 01 and its examples on AArch64, every
+ * field of every answer and every word of the buffers. Prints 'N comparisons, 0 differences', or each difference and
+ * ends with status 1. Compiles as C99 and as C++11. */
+#include <inttypes.h>
+#include <stddef.h>
+#include <stdio.h>
+#include <string.h>
+
+#include "suntimpani.h"
+
+static unsigned long comparisons, differences;
+
+static void compare(const char *what, const char *field, uint64_t got, uint64_t wanted) {
+    comparisons++;
+    if (got != wanted) {
+        differences++;
+        printf("%s: %s is %" PRIx64 ", not %" PRIx64 "\n", what, field, got, wanted);
+    }
+}
+
+#define FIELD(what, got, wanted, field) compare(what, #field, (uint64_t)(got).field, (uint64_t)(wanted).field)
+
+static void compare_verdicts(const char *what, suntimpani_verdict got, suntimpani_verdict wanted) {
+    FIELD(what, got, wanted, number);
+    FIELD(what, got, wanted, index);
+}
+
+static void compare_answers(const char *what, suntimpani_answer got, suntimpani_answer wanted) {
+    FIELD(what, got, wanted, number);
+    FIELD(what, got, wanted, function);
+    FIELD(what, got, wanted, second);
+    FIELD(what, got, wanted, compared);
+    FIELD(what, got, wanted, row);
+    FIELD(what, got, wanted, start);
+    FIELD(what, got, wanted, base);
+    FIELD(what, got, wanted, cfa);
+    FIELD(what, got, wanted, ra_place);
+    FIELD(what, got, wanted, ra);
+    FIELD(what, got, wanted, fp_place);
+    FIELD(what, got, wanted, fp);
+    FIELD(what, got, wanted, signed_ra);
+}
+
+static void compare_steps(const char *what, suntimpani_step got, suntimpani_step wanted) {
+    FIELD(what, got, wanted, registers.pc);
+    FIELD(what, got, wanted, registers.sp);
+    FIELD(what, got, wanted, registers.fp);
+    FIELD(what, got, wanted, registers.lr);
+    FIELD(what, got, wanted, registers.first);
+    FIELD(what, got, wanted, number);
+    FIELD(what, got, wanted, index);
+}
+
+static void compare_traced(const char *what, suntimpani_traced got, suntimpani_traced wanted) {
+    FIELD(what, got, wanted, frames);
+    FIELD(what, got, wanted, ending);
+    FIELD(what, got, wanted, index);
+}
+
+/* The place of a field, and that it is 8 bytes long. Places count in words. */
+#define PLACE(type, field, word)                                                                                       \
+    do {                                                                                                               \
+        compare(#type, "the place of " #field, offsetof(type, field), 8 * (word));                                     \
+        compare(#type, "the size of " #field, sizeof(((type *)0)->field), 8);                                          \
+    } while (0)
+
+static void layout_of_answers(void) {
+    compare("suntimpani_answer", "its size", sizeof(suntimpani_answer), 13 * 8);
+    PLACE(suntimpani_answer, number, 0);
+    PLACE(suntimpani_answer, function, 1);
+    PLACE(suntimpani_answer, second, 2);
+    PLACE(suntimpani_answer, compared, 3);
+    PLACE(suntimpani_answer, row, 4);
+    PLACE(suntimpani_answer, start, 5);
+    PLACE(suntimpani_answer, base, 6);
+    PLACE(suntimpani_answer, cfa, 7);
+    PLACE(suntimpani_answer, ra_place, 8);
+    PLACE(suntimpani_answer, ra, 9);
+    PLACE(suntimpani_answer, fp_place, 10);
+    PLACE(suntimpani_answer, fp, 11);
+    PLACE(suntimpani_answer, signed_ra, 12);
+}
+
+static void layout_of_the_others(void) {
+    compare("suntimpani_verdict", "its size", sizeof(suntimpani_verdict), 2 * 8);
+    PLACE(suntimpani_verdict, number, 0);
+    PLACE(suntimpani_verdict, index, 1);
+    compare("suntimpani_where", "its size", sizeof(suntimpani_where), 2 * 8);
+    PLACE(suntimpani_where, section_address, 0);
+    PLACE(suntimpani_where, stack_address, 1);
+    compare("suntimpani_registers", "its size", sizeof(suntimpani_registers), 5 * 8);
+    PLACE(suntimpani_registers, pc, 0);
+    PLACE(suntimpani_registers, sp, 1);
+    PLACE(suntimpani_registers, fp, 2);
+    PLACE(suntimpani_registers, lr, 3);
+    PLACE(suntimpani_registers, first, 4);
+    compare("suntimpani_step", "its size", sizeof(suntimpani_step), 7 * 8);
+    compare("suntimpani_step", "the place of registers", offsetof(suntimpani_step, registers), 0);
+    PLACE(suntimpani_step, number, 5);
+    PLACE(suntimpani_step, index, 6);
+    compare("suntimpani_traced", "its size", sizeof(suntimpani_traced), 3 * 8);
+    PLACE(suntimpani_traced, frames, 0);
+    PLACE(suntimpani_traced, ending, 1);
+    PLACE(suntimpani_traced, index, 2);
+}
+
+#define ADDRESS 0x400000u
+
+/* Section S of document 01. */
+static const uint8_t S[78] = {
+    0xe2, 0xde, 0x02, 0x01, 0x03, 0x00, 0xf8, 0x00, 0x02, 0x00, 0x00, 0x00, 0x03, 0x00, 0x00, 0x00,
+    0x0a, 0x00, 0x00, 0x00, 0x00, 0x00, 0x00, 0x00, 0x28, 0x00, 0x00, 0x00,
+    0x00, 0x10, 0x00, 0x00, 0x20, 0x00, 0x00, 0x00, 0x00, 0x00, 0x00, 0x00, 0x02, 0x00, 0x00, 0x00,
+    0x00, 0x00, 0x00, 0x00,
+    0x40, 0x10, 0x00, 0x00, 0x10, 0x00, 0x00, 0x00, 0x07, 0x00, 0x00, 0x00, 0x01, 0x00, 0x00, 0x00,
+    0x00, 0x00, 0x00, 0x00,
+    0x00, 0x03, 0x08, 0x04, 0x04, 0x10, 0xf0, 0x00, 0x03, 0x08,
+};
+
+/* S with the second start 0x101f and these flags. */
+static const uint8_t *overlapping(uint8_t flags) {
+    static uint8_t section[sizeof S];
+    memcpy(section, S, sizeof S);
+    section[3] = flags;
+    section[48] = 0x1f;
+    return section;
+}
+
+static void k1_to_k3(void) {
+    const suntimpani_verdict accepted = {0, 0}, sizes = {8, 0}, is_short = {1, 0};
+    compare_verdicts("K1", suntimpani_check(S, 78), accepted);
+    compare_verdicts("K2", suntimpani_check(S, 77), sizes);
+    compare_verdicts("K3", suntimpani_check(S, 27), is_short);
+}
+
+static void k4_to_k7(void) {
+    const suntimpani_answer entered = {0, 0, 0, 2, 0, 0, 1, 8, 1, -8, 0, 0, 0};
+    const suntimpani_answer framed = {0, 0, 0, 2, 1, 4, 0, 16, 1, -8, 1, -16, 0};
+    const suntimpani_answer none = {21, 0, 0, 2, 0, 0, 0, 0, 0, 0, 0, 0, 0};
+    const suntimpani_answer second = {0, 1, 0, 1, 0, 0, 1, 8, 1, -8, 0, 0, 0};
+    compare_answers("K4", suntimpani_lookup(S, 78, ADDRESS, 0x401003), entered);
+    compare_answers("K5, 0x401004", suntimpani_lookup(S, 78, ADDRESS, 0x401004), framed);
+    compare_answers("K5, 0x40101f", suntimpani_lookup(S, 78, ADDRESS, 0x40101f), framed);
+    compare_answers("K6, 0x400fff", suntimpani_lookup(S, 78, ADDRESS, 0x400fff), none);
+    compare_answers("K6, 0x401020", suntimpani_lookup(S, 78, ADDRESS, 0x401020), none);
+    compare_answers("K6, 0x40103f", suntimpani_lookup(S, 78, ADDRESS, 0x40103f), none);
+    compare_answers("K7", suntimpani_lookup(S, 78, ADDRESS, 0x401040), second);
+}
+
+static void k8_and_k9(void) {
+    const suntimpani_verdict order = {14, 1}, accepted = {0, 0};
+    const suntimpani_answer unsound = {14, 1, 0, 0, 0, 0, 0, 0, 0, 0, 0, 0, 0};
+    const suntimpani_answer dispute = {22, 0, 1, 2, 0, 0, 0, 0, 0, 0, 0, 0, 0};
+    compare_verdicts("K8", suntimpani_check(overlapping(1), 78), order);
+    compare_answers("K8, a lookup", suntimpani_lookup(overlapping(1), 78, ADDRESS, 0x40101f), unsound);
+    compare_verdicts("K9", suntimpani_check(overlapping(0), 78), accepted);
+    compare_answers("K9, a lookup", suntimpani_lookup(overlapping(0), 78, ADDRESS, 0x40101f), dispute);
+}
+
+/* "PC 0x401044, SP 0x7000, FP 0x7030; stack at 0x7000, 64 bytes, all zero but the word 0x401008 at 0x7000". */
+static const suntimpani_registers START = {0x401044, 0x7000, 0x7030, 0x5555, 1};
+static const suntimpani_where LIES = {ADDRESS, 0x7000};
+static const uint8_t STACK[64] = {0x08, 0x10, 0x40};
+
+#define HELD UINT64_C(0xa5a5a5a5a5a5a5a5)
+
+/* A trace over a buffer of 8 words, of which `lent` are lent, and what all 8 hold afterwards. */
+static void compare_trace(const char *what, const uint8_t *section, size_t stack_length, uint64_t limit, size_t lent,
+                          suntimpani_traced wanted, const uint64_t *words) {
+    uint64_t buffer[8] = {HELD, HELD, HELD, HELD, HELD, HELD, HELD, HELD};
+    size_t word;
+    suntimpani_traced got =
+        suntimpani_trace(section, 78, STACK, stack_length, LIES, START, limit, buffer, lent);
+    compare_traced(what, got, wanted);
+    for (word = 0; word < 8; word++) {
+        compare(what, "a word of the buffer", buffer[word], words[word]);
+    }
+}
+
+static void k10_to_k12(void) {
+    const uint64_t two[8] = {0x7008, 0x401008, 0x7030, 0x7040, 0, 0, HELD, HELD};
+    const uint64_t one[8] = {0x7008, 0x401008, 0x7030, HELD, HELD, HELD, HELD, HELD};
+    const uint64_t none[8] = {HELD, HELD, HELD, HELD, HELD, HELD, HELD, HELD};
+    const suntimpani_traced outermost = {2, 30, 0}, full = {1, 31, 0}, outside = {1, 28, 0};
+    const suntimpani_traced unsound = {0, 14, 1}, limit = {0, 42, 0}, room = {0, 43, 0};
+    compare_trace("K10", S, 64, 2, 6, outermost, two);
+    compare_trace("K11", S, 64, 1, 6, full, one);
+    compare_trace("K12", S, 63, 2, 6, outside, one);
+    compare_trace("K10 in the section of K8", overlapping(1), 64, 2, 6, unsound, none);
+    compare_trace("K10 with limit 257", S, 64, 257, 8, limit, none);
+    compare_trace("K10 with 5 words", S, 64, 2, 5, room, none);
+    compare_trace("K10 with limit 0 and 8 words", S, 64, 0, 8, room, none);
+}
+
+static void steps(void) {
+    const suntimpani_registers marked = {0x401044, 0x7000, 0x7030, 0x5555, 7};
+    const suntimpani_where high = {ADDRESS, UINT64_MAX};
+    const suntimpani_step caller = {{0x401008, 0x7008, 0x7030, 0x5555, 0}, 0, 0};
+    const suntimpani_step outermost = {{0, 0x7040, 0, 0x5555, 0}, 0, 0};
+    const suntimpani_step unsound = {{0x401044, 0x7000, 0x7030, 0x5555, 7}, 14, 1};
+    const suntimpani_step past_the_end = {{0x401044, 0x7000, 0x7030, 0x5555, 7}, 41, 0};
+    compare_steps("the first step of K10", suntimpani_caller(S, 78, STACK, 64, LIES, marked), caller);
+    compare_steps("the second", suntimpani_caller(S, 78, STACK, 64, LIES, caller.registers), outermost);
+    compare_steps("a step in K8", suntimpani_caller(overlapping(1), 78, STACK, 64, LIES, marked), unsound);
+    compare_steps("a stack past 2^64", suntimpani_caller(S, 78, STACK, 64, high, marked), past_the_end);
+}
+
+/* AArch64, little-endian, one function of 16 bytes at 0x1000 with three rows: from 0 on SP + 0, from 4 on SP + 16, both
+ * with RA in LR, and from 8 on FP + 32 with RA at CFA - 24 and FP at CFA - 32, signed. */
+static const uint8_t ON_AARCH64[59] = {
+    0xe2, 0xde, 0x02, 0x01, 0x02, 0x00, 0x00, 0x00, 0x01, 0x00, 0x00, 0x00, 0x03, 0x00, 0x00, 0x00,
+    0x0b, 0x00, 0x00, 0x00, 0x00, 0x00, 0x00, 0x00, 0x14, 0x00, 0x00, 0x00,
+    0x00, 0x10, 0x00, 0x00, 0x10, 0x00, 0x00, 0x00, 0x00, 0x00, 0x00, 0x00, 0x03, 0x00, 0x00, 0x00,
+    0x00, 0x00, 0x00, 0x00,
+    0x00, 0x03, 0x00, 0x04, 0x03, 0x10, 0x08, 0x86, 0x20, 0xe8, 0xe0,
+};
+
+/* "AArch64, first frame, SP base, offset 0: CFA = SP, RA = LR. The same row later: 26. With offset 16 later: 27." No
+ * word of the stack is needed, so that it may be lent as NULL. */
+static void examples_on_aarch64(void) {
+    const suntimpani_answer signed_row = {0, 0, 0, 1, 2, 8, 0, 32, 1, -24, 1, -32, 1};
+    const suntimpani_answer leaf_row = {0, 0, 0, 1, 1, 4, 1, 16, 0, 0, 0, 0, 0};
+    const suntimpani_registers first = {0x401000, 0x7000, 0x7030, 0x401004, 1};
+    const suntimpani_registers later = {0x401000, 0x7000, 0x7030, 0x401004, 0};
+    const suntimpani_step caller = {{0x401004, 0x7000, 0x7030, 0x401004, 0}, 0, 0};
+    const suntimpani_step same_cfa = {{0x401000, 0x7000, 0x7030, 0x401004, 0}, 26, 0};
+    const suntimpani_step no_place = {{0x401004, 0x7000, 0x7030, 0x401004, 0}, 27, 0};
+    compare_answers("a signed row", suntimpani_lookup(ON_AARCH64, 59, ADDRESS, 0x40100f), signed_row);
+    compare_answers("a leaf's row", suntimpani_lookup(ON_AARCH64, 59, ADDRESS, 0x401004), leaf_row);
+    compare_steps("first, offset 0", suntimpani_caller(ON_AARCH64, 59, NULL, 0, LIES, first), caller);
+    compare_steps("later, offset 0", suntimpani_caller(ON_AARCH64, 59, NULL, 0, LIES, later), same_cfa);
+    compare_steps("later, offset 16", suntimpani_caller(ON_AARCH64, 59, NULL, 0, LIES, caller.registers), no_place);
+}
+
+/* Nothing is read or written through a pointer whose length is 0. */
+static void null_pointers(void) {
+    const suntimpani_verdict is_short = {1, 0};
+    const suntimpani_answer unsound = {1, 0, 0, 0, 0, 0, 0, 0, 0, 0, 0, 0, 0};
+    const suntimpani_step refused = {{0x401044, 0x7000, 0x7030, 0x5555, 1}, 1, 0};
+    const suntimpani_step outside = {{0x401044, 0x7000, 0x7030, 0x5555, 1}, 28, 0};
+    const suntimpani_traced no_room = {0, 43, 0}, no_section = {0, 1, 0}, no_stack = {0, 28, 0};
+    uint64_t buffer[6];
+    compare_verdicts("no section", suntimpani_check(NULL, 0), is_short);
+    compare_answers("no section, a lookup", suntimpani_lookup(NULL, 0, ADDRESS, 0x401003), unsound);
+    compare_steps("no section, a step", suntimpani_caller(NULL, 0, NULL, 0, LIES, START), refused);
+    compare_steps("no stack, a step", suntimpani_caller(S, 78, NULL, 0, LIES, START), outside);
+    compare_traced("no buffer", suntimpani_trace(S, 78, STACK, 64, LIES, START, 2, NULL, 0), no_room);
+    compare_traced("no section, a trace", suntimpani_trace(NULL, 0, NULL, 0, LIES, START, 2, buffer, 6), no_section);
+    compare_traced("no stack, a trace", suntimpani_trace(S, 78, NULL, 0, LIES, START, 2, buffer, 6), no_stack);
+}
+
+int main(void) {
+    layout_of_answers();
+    layout_of_the_others();
+    k1_to_k3();
+    k4_to_k7();
+    k8_and_k9();
+    k10_to_k12();
+    steps();
+    examples_on_aarch64();
+    null_pointers();
+    printf("%lu comparisons, %lu differences\n", comparisons, differences);
+    return differences == 0 ? 0 : 1;
+}
