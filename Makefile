@@ -1,16 +1,59 @@
 # The commands of the repository; `make` alone lists them.
-.PHONY: help test run lib install cases reader soak bench fmt
+.PHONY: help run test lib install soak bench cases reader fmt
+
+PREFIX = /usr/local
+DESTDIR =
+# The one place of the version is the Rust package, since cargo takes it from there.
+VERSION = $(shell sed -n 's/^version = "\(.*\)"/\1/p' bindings/rust/Cargo.toml)
+
+# Generated sections of a soak, and the seed to repeat one.
+N = 1000000
+SEED =
 
 help:
-	@echo "make run      prove and build the program sframe, and trace a recorded crash with it"
+	@echo "make run      prove and build the program sframe, and ask it about a recorded crash"
 	@echo "make test     the gate: proofs, must-fail edits, programs, and the library against the reader (bash .ci/run)"
 	@echo "make lib      prove the library and build target/staticlib/libsuntimpani.a"
-	@echo "make install  put archive, header and pkg-config file below PREFIX (/usr/local)"
-	@echo "make soak     compare the library with the reader for longer: N=1000000 sections, SEED=.. to repeat a run"
+	@echo "make install  put the archive, its header and a pkg-config file below PREFIX ($(PREFIX))"
+	@echo "make soak     compare the library with the reader for longer: N=$(N) sections, SEED=.. to repeat a run"
 	@echo "make bench    one table: the library's time against the reader's, and its use of the stack"
 	@echo "make cases    make the stored cases and their expected output anew, by the independent reader"
 	@echo "make reader   the independent reader by itself: its own tests, and the public dumps"
 	@echo "make fmt      lay every source and proof file out"
 
+# What rt says is shown only where something failed.
+run:
+	@echo "proving and building sframe: a few minutes the first time" >&2
+	@said=$$(rt check sframe 2>&1) || { echo "$$said"; exit 1; }
+	@examples/recorded_crash
+
 test:
 	bash .ci/run
+
+lib:
+	@said=$$(rt staticlib suntimpani 2>&1) || { echo "$$said"; exit 1; }
+
+install: lib
+	install -d "$(DESTDIR)$(PREFIX)/lib/pkgconfig" "$(DESTDIR)$(PREFIX)/include"
+	install -m 644 target/staticlib/libsuntimpani.a "$(DESTDIR)$(PREFIX)/lib"
+	install -m 644 include/suntimpani.h "$(DESTDIR)$(PREFIX)/include"
+	sed -e 's|@PREFIX@|$(PREFIX)|' -e 's|@VERSION@|$(VERSION)|' include/suntimpani.pc.in \
+	    >"$(DESTDIR)$(PREFIX)/lib/pkgconfig/suntimpani.pc"
+
+soak: lib
+	cd tests && cargo run --quiet --release --offline --locked --features library --bin soak -- $(N) $(SEED)
+
+bench: lib
+	@said=$$(rt staticlib measure 2>&1) || { echo "$$said"; exit 1; }
+	cd tests && cargo run --quiet --release --offline --locked --features library,measure --bin bench
+
+cases:
+	cd tests && cargo run --quiet --release --offline --locked --bin cases -- write
+
+reader:
+	cd tests && cargo test --release --offline --locked
+
+fmt:
+	rt fmt
+	cd tests && cargo fmt
+	cd bindings/rust && cargo fmt

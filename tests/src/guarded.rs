@@ -2,11 +2,16 @@
 #![allow(unsafe_code)]
 
 use std::ffi::{c_int, c_void};
+use std::sync::OnceLock;
 use std::{ptr, slice};
 
 const PROT_NONE: c_int = 0;
 const PROT_READ_WRITE: c_int = 3;
-const MAP_PRIVATE_ANONYMOUS: c_int = 0x22;
+/// Private, of no file, and without memory set aside: a large room costs what is touched of it.
+const MAP_FLAGS: c_int = 0x4022;
+
+const SIGBUS: c_int = 7;
+const SIGSEGV: c_int = 11;
 
 /// A multiple of every page size that Linux has on the machines concerned.
 const PAGE: usize = 65_536;
@@ -15,6 +20,46 @@ extern "C" {
     fn mmap(at: *mut c_void, length: usize, allow: c_int, flags: c_int, file: c_int, offset: i64) -> *mut c_void;
     fn mprotect(at: *mut c_void, length: usize, allow: c_int) -> c_int;
     fn munmap(at: *mut c_void, length: usize) -> c_int;
+    fn signal(number: c_int, handler: extern "C" fn(c_int)) -> *mut c_void;
+    fn _exit(status: c_int) -> !;
+}
+
+/// The end of a room that something lies flush against.
+#[derive(Clone, Copy, Debug, PartialEq, Eq)]
+pub enum Side {
+    Front,
+    End,
+}
+
+impl Side {
+    pub const BOTH: [Side; 2] = [Side::Front, Side::End];
+
+    // Where something of a length begins in a room.
+    fn place(self, room: usize, length: usize) -> usize {
+        match self {
+            Side::Front => 0,
+            Side::End => room - length,
+        }
+    }
+}
+
+/// From now on a touched forbidden page is told by this function, in the thread that touched it, and ends the program
+/// with status 1.
+pub fn tell_faults_by(tell: fn()) {
+    static TELL: OnceLock<fn()> = OnceLock::new();
+    extern "C" fn told(_: c_int) {
+        if let Some(tell) = TELL.get() {
+            tell();
+        }
+        // SAFETY: ends the program at once, which cannot go on from here.
+        unsafe { _exit(1) }
+    }
+    TELL.get_or_init(|| tell);
+    // SAFETY: the handler is a function that stays, and the two signals are those of memory that may not be touched.
+    unsafe {
+        signal(SIGSEGV, told);
+        signal(SIGBUS, told);
+    }
 }
 
 pub struct Guarded {
@@ -33,60 +78,47 @@ impl Guarded {
         let room = bytes.max(1).next_multiple_of(PAGE);
         // SAFETY: a new mapping of its own, whose middle is then opened; nothing else knows its address.
         unsafe {
-            let base = mmap(ptr::null_mut(), room + 2 * PAGE, PROT_NONE, MAP_PRIVATE_ANONYMOUS, -1, 0);
+            let base = mmap(ptr::null_mut(), room + 2 * PAGE, PROT_NONE, MAP_FLAGS, -1, 0);
             assert!(!base.is_null() && base as isize != -1, "no memory for {bytes} bytes");
             assert_eq!(mprotect(base.byte_add(PAGE), room, PROT_READ_WRITE), 0, "the room cannot be opened");
             Guarded { base: base.cast(), room }
         }
     }
 
-    /// A copy whose first byte follows a forbidden page.
-    pub fn at_front(&mut self, bytes: &[u8]) -> &[u8] {
-        self.copy(bytes, 0)
+    /// A copy that lies flush against the forbidden page of a side.
+    pub fn bytes_at(&mut self, side: Side, bytes: &[u8]) -> &[u8] {
+        self.longer_at(side, bytes, bytes.len())
     }
 
-    /// A copy whose last byte is followed by a forbidden page.
+    /// The same of a length that is longer than the copy; what stands behind the copy is whatever the room holds.
     ///
     /// # Panics
     /// Where there is no room for it.
-    pub fn at_end(&mut self, bytes: &[u8]) -> &[u8] {
-        assert!(bytes.len() <= self.room);
-        self.copy(bytes, self.room - bytes.len())
+    pub fn longer_at(&mut self, side: Side, bytes: &[u8], length: usize) -> &[u8] {
+        assert!(bytes.len() <= length && length <= self.room);
+        let place = side.place(self.room, length);
+        // SAFETY: the copy lies inside the room, which was opened and is lent by no one else while self is borrowed.
+        unsafe {
+            let to = self.base.add(PAGE + place);
+            ptr::copy_nonoverlapping(bytes.as_ptr(), to, bytes.len());
+            slice::from_raw_parts(to, length)
+        }
     }
 
-    /// A copy of words, to be written to, whose first byte follows a forbidden page.
-    pub fn words_at_front(&mut self, words: &[u64]) -> &mut [u64] {
-        self.copy_words(words, 0)
-    }
-
-    /// The same with the last byte before a forbidden page.
+    /// A copy of words, to be written to.
     ///
     /// # Panics
     /// Where there is no room for it.
-    pub fn words_at_end(&mut self, words: &[u64]) -> &mut [u64] {
-        let bytes = size_of_val(words);
-        assert!(bytes <= self.room);
-        self.copy_words(words, self.room - bytes)
-    }
-
-    fn copy_words(&mut self, words: &[u64], place: usize) -> &mut [u64] {
-        assert!(place + size_of_val(words) <= self.room);
+    pub fn words_at(&mut self, side: Side, words: &[u64]) -> &mut [u64] {
+        let length = size_of_val(words);
+        assert!(length <= self.room);
+        let place = side.place(self.room, length);
         // SAFETY: as for bytes. The room begins at a page and ends at one, so that every place that is a multiple of 8
         // bytes from either is one for words.
         unsafe {
             let to = self.base.add(PAGE + place).cast::<u64>();
             ptr::copy_nonoverlapping(words.as_ptr(), to, words.len());
             slice::from_raw_parts_mut(to, words.len())
-        }
-    }
-
-    fn copy(&mut self, bytes: &[u8], place: usize) -> &[u8] {
-        assert!(place + bytes.len() <= self.room);
-        // SAFETY: the copy lies inside the room, which was opened and is lent by no one else while self is borrowed.
-        unsafe {
-            let to = self.base.add(PAGE + place);
-            ptr::copy_nonoverlapping(bytes.as_ptr(), to, bytes.len());
-            slice::from_raw_parts(to, bytes.len())
         }
     }
 }

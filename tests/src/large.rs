@@ -36,13 +36,15 @@ fn last(section: &mut Section) -> &mut Function {
     section.functions.last_mut().expect("the section has functions")
 }
 
-/// The cases at the limit, each made when it is asked for.
-pub fn at_the_limit() -> impl Iterator<Item = Case> {
-    AT_THE_LIMIT.into_iter().map(|(name, length, edit, expected)| {
-        let mut section = of_length(length);
-        edit(&mut section);
-        Case::new(name, section.bytes(), expected).asked(questions(expected)).walked(vec![walk(expected)])
-    })
+/// How many cases there are at the limit.
+pub const AT_THE_LIMIT_COUNT: u64 = AT_THE_LIMIT.len() as u64;
+
+/// The case at the limit of a number below the count.
+pub fn at_the_limit(number: u64) -> Case {
+    let (name, length, edit, expected) = AT_THE_LIMIT[number as usize];
+    let mut section = of_length(length);
+    edit(&mut section);
+    Case::new(name, section.bytes(), expected).asked(questions(expected)).walked(vec![walk(expected)])
 }
 
 // From the last function to the first, both at their first rows, CFA being SP + 8, and no farther; a refused section
@@ -68,7 +70,7 @@ fn walk(verdict: Verdict) -> (Walk, Walked) {
 
 // Lookups in the first function, the last and one between, and outside of all; a refused section refuses each.
 fn questions(verdict: Verdict) -> Vec<Question> {
-    let rows = &described(&many_functions(1))[0].rows;
+    let rows = &described(&sharing(1, &rows_of_a_function()))[0].rows;
     let outcome = |function: Option<u64>, number: usize| match (verdict, function) {
         (Verdict::Refused { number, index }, _) => Outcome::SectionRefused { number, index },
         (_, None) => Outcome::NoFunction,
@@ -101,22 +103,16 @@ fn questions(verdict: Verdict) -> Vec<Question> {
 fn of_length(length: usize) -> Section {
     let row_bytes = rows_of_a_function().iter().map(|row| row.length(1)).sum::<usize>();
     let count = (length - 28 - row_bytes) / 20;
-    let mut section = many_functions(1);
-    section.functions.extend((1..count).map(|index| {
-        let mut function = Function::new(start_of(index), 32, 0, Vec::new());
-        function.first_row = FirstRow::SharedWith(0);
-        function
-    }));
+    let mut section = sharing(count, &rows_of_a_function());
     section.tail = vec![0xff; length - 28 - 20 * count - row_bytes];
     section
 }
 
-/// A sound sorted AMD64 section of adjoining functions with four rows of their own each, 34 bytes a function.
+/// A sound sorted AMD64 section of adjoining functions that share two rows in 8 bytes, so that as many functions as a
+/// section can have are described as a few are: 838,859 of them take 16,777,216 bytes.
 pub fn many_functions(count: usize) -> Section {
-    let mut section = Section::new(Machine::Amd64);
-    section.flags = SORTED;
-    section.functions =
-        (0..count).map(|index| Function::new(start_of(index), 32, 0, rows_of_a_function().to_vec())).collect();
+    let mut section = sharing(count, &[Row::new(0, 0, &[8]), Row::new(1, 0, &[16, -16])]);
+    section.tail = vec![0];
     section
 }
 
@@ -125,9 +121,23 @@ pub fn many_functions_unsorted(count: usize) -> Section {
     let mut section = many_functions(count);
     section.flags = 0;
     let mut random = Random::new(count as u64);
-    for last in (1..count).rev() {
-        section.functions.swap(last, random.below(last as u64 + 1) as usize);
+    // The first keeps its place: the others share its rows.
+    for last in (2..count).rev() {
+        section.functions.swap(last, 1 + random.below(last as u64) as usize);
     }
+    section
+}
+
+// Adjoining functions, all but the first with its rows.
+fn sharing(count: usize, rows: &[Row]) -> Section {
+    let mut section = Section::new(Machine::Amd64);
+    section.flags = SORTED;
+    section.functions = vec![Function::new(start_of(0), 32, 0, rows.to_vec())];
+    section.functions.extend((1..count).map(|index| {
+        let mut function = Function::new(start_of(index), 32, 0, Vec::new());
+        function.first_row = FirstRow::SharedWith(0);
+        function
+    }));
     section
 }
 
@@ -163,9 +173,9 @@ mod tests {
 
     #[test]
     fn sections_at_the_limit_are_judged_as_stated() {
-        let lengths: Vec<usize> = AT_THE_LIMIT.iter().map(|case| case.1).collect();
-        for (case, length) in at_the_limit().zip(lengths) {
-            assert_eq!(case.section.len(), length, "{}", case.name);
+        for number in 0..AT_THE_LIMIT_COUNT {
+            let case = at_the_limit(number);
+            assert_eq!(case.section.len(), AT_THE_LIMIT[number as usize].1, "{}", case.name);
             assert_eq!(check(&case.section), case.expected, "{}", case.name);
             for Question { address, pc, expected } in &case.questions {
                 assert_eq!(lookup(&case.section, *address, *pc), *expected, "{}, PC {pc:x}", case.name);
@@ -183,9 +193,12 @@ mod tests {
     }
 
     #[test]
-    fn the_section_of_many_functions_is_sound() {
-        let section = many_functions(1000).bytes();
-        assert_eq!((section.len(), check(&section)), (28 + 34 * 1000, Verdict::Accepted));
+    fn the_section_of_many_functions_is_sound_up_to_the_limit() {
+        for count in [1, 1_000, 838_859] {
+            let section = many_functions(count).bytes();
+            assert_eq!((section.len(), check(&section)), (36 + 20 * count, Verdict::Accepted));
+        }
+        assert_eq!(36 + 20 * 838_859, LIMIT);
     }
 
     #[test]

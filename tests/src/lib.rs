@@ -4,26 +4,34 @@
 //! `maker` builds sections the other way round, from a description to bytes, and shares nothing with it. `walk` is what
 //! is lent to a step and a trace, and `laid` lays long stacks for them. `cases` is the fixed list of named sections,
 //! questions and walks, `pack` the form in which they are stored, `large` the sections too big to store, `stream` an
-//! endless seeded source of more. `library` and `guarded` hold the proved library against the reader, `measured` and
-//! `timing` measure both.
+//! endless seeded source of more. `comparison` holds the proved library, called by `library`, against the reader, all
+//! memory being `guarded`. `measured`, `timing`, `painted` and `libsframe` measure both. `words` is what the program
+//! `sframe` prints.
 #![deny(unsafe_code)]
 
 pub mod cases;
+#[cfg(feature = "library")]
+pub mod comparison;
 #[cfg(feature = "library")]
 pub mod guarded;
 pub mod laid;
 pub mod large;
 #[cfg(feature = "library")]
 pub mod library;
+#[cfg(feature = "measure")]
+pub mod libsframe;
 pub mod maker;
 #[cfg(feature = "measure")]
 pub mod measured;
 pub mod obvious;
 pub mod pack;
+#[cfg(feature = "library")]
+pub mod painted;
 pub mod reader;
 pub mod stream;
 pub mod timing;
 pub mod walk;
+pub mod words;
 
 use std::path::{Path, PathBuf};
 

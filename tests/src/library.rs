@@ -1,6 +1,8 @@
 //! The proved library, called as a program in C would call it.
 #![allow(unsafe_code)]
 
+pub mod empty;
+
 use crate::reader::{self, Base, Ending, Outcome, Place};
 
 /// What `suntimpani_check` answers; number 0 is accepted.
@@ -94,43 +96,64 @@ extern "C" {
     ) -> Traced;
 }
 
-/// The library's verdict. An accepted section has no entry to name, so that 0 with any index but 0 stays visible.
-pub fn check(section: &[u8]) -> reader::Verdict {
-    // SAFETY: the pointer and the length are those of a slice, which is lent for the length of the call.
-    let said = unsafe { suntimpani_check(section.as_ptr(), section.len()) };
-    match (said.number, said.index) {
-        (0, 0) => reader::Verdict::Accepted,
-        (number, index) => reader::Verdict::Refused { number, index },
+/// Four calls of one form, as a program in C has them.
+#[derive(Clone, Copy)]
+pub struct Calls {
+    check: unsafe extern "C" fn(*const u8, usize) -> Verdict,
+    lookup: unsafe extern "C" fn(*const u8, usize, u64, u64) -> Answer,
+    caller: unsafe extern "C" fn(*const u8, usize, *const u8, usize, Where, Registers) -> Step,
+    trace: unsafe extern "C" fn(*const u8, usize, *const u8, usize, Where, Registers, u64, *mut u64, usize) -> Traced,
+}
+
+/// The calls of the proved library.
+pub const LIBRARY: Calls =
+    Calls { check: suntimpani_check, lookup: suntimpani_lookup, caller: suntimpani_caller, trace: suntimpani_trace };
+
+impl Calls {
+    /// The verdict. An accepted section has no entry to name, so that 0 with any index but 0 stays visible.
+    #[inline]
+    pub fn check(&self, section: &[u8]) -> reader::Verdict {
+        // SAFETY: the pointer and the length are those of a slice, which is lent for the length of the call.
+        let said = unsafe { (self.check)(section.as_ptr(), section.len()) };
+        match (said.number, said.index) {
+            (0, 0) => reader::Verdict::Accepted,
+            (number, index) => reader::Verdict::Refused { number, index },
+        }
     }
-}
 
-/// The library's answer, every field as it came.
-pub fn lookup(section: &[u8], address: u64, pc: u64) -> Answer {
-    // SAFETY: the pointer and the length are those of a slice, which is lent for the length of the call.
-    unsafe { suntimpani_lookup(section.as_ptr(), section.len(), address, pc) }
-}
+    /// The answer, every field as it came.
+    #[inline]
+    pub fn lookup(&self, section: &[u8], address: u64, pc: u64) -> Answer {
+        // SAFETY: the pointer and the length are those of a slice, which is lent for the length of the call.
+        unsafe { (self.lookup)(section.as_ptr(), section.len(), address, pc) }
+    }
 
-/// The library's step, every field as it came.
-pub fn step(section: &[u8], stack: &[u8], lies: reader::Where, registers: reader::Registers) -> Step {
-    let (lies, registers) = (Where::of(lies), Registers::of(registers));
-    // SAFETY: both pointers and lengths are those of slices, which are lent for the length of the call.
-    unsafe { suntimpani_caller(section.as_ptr(), section.len(), stack.as_ptr(), stack.len(), lies, registers) }
-}
+    /// The step, every field as it came.
+    #[inline]
+    pub fn step(&self, section: &[u8], stack: &[u8], lies: reader::Where, registers: reader::Registers) -> Step {
+        let (lies, registers) = (Where::of(lies), Registers::of(registers));
+        // SAFETY: both pointers and lengths are those of slices, which are lent for the length of the call.
+        unsafe { (self.caller)(section.as_ptr(), section.len(), stack.as_ptr(), stack.len(), lies, registers) }
+    }
 
-/// The library's trace, every field as it came.
-pub fn trace(
-    section: &[u8],
-    stack: &[u8],
-    lies: reader::Where,
-    registers: reader::Registers,
-    limit: u64,
-    buffer: &mut [u64],
-) -> Traced {
-    let (lies, registers) = (Where::of(lies), Registers::of(registers));
-    let (section_at, stack_at, buffer_at) = (section.as_ptr(), stack.as_ptr(), buffer.as_mut_ptr());
-    let (length, stack_length, words) = (section.len(), stack.len(), buffer.len());
-    // SAFETY: the pointers and lengths are those of slices, lent for the length of the call; no other is the buffer's.
-    unsafe { suntimpani_trace(section_at, length, stack_at, stack_length, lies, registers, limit, buffer_at, words) }
+    /// The trace, every field as it came.
+    #[inline]
+    pub fn trace(
+        &self,
+        section: &[u8],
+        stack: &[u8],
+        lies: reader::Where,
+        registers: reader::Registers,
+        limit: u64,
+        buffer: &mut [u64],
+    ) -> Traced {
+        let (lies, registers) = (Where::of(lies), Registers::of(registers));
+        let (section_at, stack_at, buffer_at) = (section.as_ptr(), stack.as_ptr(), buffer.as_mut_ptr());
+        let (length, stack_length, words) = (section.len(), stack.len(), buffer.len());
+        // SAFETY: the pointers and lengths are those of slices, lent for the length of the call; no other is the
+        // buffer's.
+        unsafe { (self.trace)(section_at, length, stack_at, stack_length, lies, registers, limit, buffer_at, words) }
+    }
 }
 
 impl Where {

@@ -29,6 +29,16 @@ pub enum Verdict {
     Refused { number: u64, index: u64 },
 }
 
+impl Verdict {
+    /// Document 01's number; 0 for a section that is accepted.
+    pub fn number(&self) -> u64 {
+        match *self {
+            Verdict::Accepted => 0,
+            Verdict::Refused { number, .. } => number,
+        }
+    }
+}
+
 impl fmt::Display for Verdict {
     fn fmt(&self, to: &mut fmt::Formatter) -> fmt::Result {
         match self {
@@ -315,7 +325,7 @@ impl<'a> Parts<'a> {
     }
 
     // The row at a place of the row area, tried in document 01's order: fixed part inside, info, offsets inside.
-    // Inlined by measurement: with a call for each row the checks of `bench_check` take nearly twice as long.
+    // Inlined by measurement: with a call for each row the checks of `bench` take nearly twice as long.
     #[inline(always)]
     fn row(&self, place: usize, start_width: usize) -> Result<RawRow<'a>, u64> {
         let offsets_at = place + start_width + 1;

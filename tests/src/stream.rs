@@ -5,9 +5,11 @@
 #![forbid(unsafe_code)]
 
 mod lookups;
+mod turns;
 mod walks;
 
 pub use lookups::questions;
+pub use turns::{turn, Turn};
 pub use walks::{walkable, walks};
 
 use crate::maker::{FirstRow, Function, Machine, Row, Section, Start, RELATIVE, SORTED};
@@ -51,25 +53,12 @@ impl Random {
     }
 }
 
-/// Sections without end.
-pub struct Stream(Random);
-
-impl Stream {
-    pub fn new(seed: u64) -> Stream {
-        Stream(Random::new(seed))
-    }
-}
-
-impl Iterator for Stream {
-    type Item = Vec<u8>;
-
-    fn next(&mut self) -> Option<Vec<u8>> {
-        let random = &mut self.0;
-        let section = sound(random);
-        Some(match random.below(12) {
-            0..=3 => section.bytes(),
-            kind => damaged(random, section, kind - 4),
-        })
+/// The bytes of a section, sound one time in three.
+pub fn section(random: &mut Random) -> Vec<u8> {
+    let section = sound(random);
+    match random.below(12) {
+        0..=3 => section.bytes(),
+        kind => damaged(random, section, kind - 4),
     }
 }
 
@@ -319,6 +308,11 @@ mod tests {
     use crate::reader::{self, Verdict};
     use std::collections::BTreeMap;
 
+    fn sections(seed: u64, count: usize) -> impl Iterator<Item = Vec<u8>> {
+        let mut random = Random::new(seed);
+        (0..count).map(move |_| section(&mut random))
+    }
+
     #[test]
     fn sound_sections_are_accepted_and_mean_what_was_described() {
         let mut random = Random::new(1);
@@ -333,12 +327,8 @@ mod tests {
     #[test]
     fn every_number_comes_often() {
         let mut counts: BTreeMap<u64, u32> = BTreeMap::new();
-        for section in Stream::new(2).take(20_000) {
-            let number = match reader::check(&section) {
-                Verdict::Accepted => 0,
-                Verdict::Refused { number, .. } => number,
-            };
-            *counts.entry(number).or_default() += 1;
+        for section in sections(2, 20_000) {
+            *counts.entry(reader::check(&section).number()).or_default() += 1;
         }
         let numbers: Vec<u64> = counts.keys().copied().collect();
         assert_eq!(numbers, [&[0, 1][..], &Vec::from_iter(3..=15)].concat());
@@ -349,7 +339,7 @@ mod tests {
     fn lookups_are_by_the_definition_and_every_answer_comes_often() {
         let mut counts: BTreeMap<u64, u32> = BTreeMap::new();
         let mut random = Random::new(5);
-        for (turn, section) in Stream::new(2).take(20_000).enumerate() {
+        for (turn, section) in sections(2, 20_000).enumerate() {
             for (address, pc) in questions(&mut random, &section) {
                 let answer = reader::lookup(&section, address, pc);
                 assert_eq!(answer, obvious::lookup(&section, address, pc), "section {turn}, {address:x}, PC {pc:x}");
@@ -389,7 +379,7 @@ mod tests {
 
     #[test]
     fn a_seed_gives_the_same_sections_again() {
-        assert!(Stream::new(3).take(100).eq(Stream::new(3).take(100)));
-        assert!(Stream::new(3).take(100).ne(Stream::new(4).take(100)));
+        assert!(sections(3, 100).eq(sections(3, 100)));
+        assert!(sections(3, 100).ne(sections(4, 100)));
     }
 }

@@ -1,40 +1,106 @@
-//! Times of two ways to do the same thing, taken turn about in one run so that both meet the same machine.
+//! Times of several ways to do the same thing, taken turn about in the same rounds so that all meet the same machine.
 #![forbid(unsafe_code)]
 
+use std::hint::black_box;
 use std::time::{Duration, Instant};
 
-/// The times of one way, a round each.
-#[derive(Default)]
-pub struct Times(Vec<Duration>);
+/// A sample of one way lasts at least so long.
+const SAMPLE: Duration = Duration::from_millis(2);
+
+/// The times of one way, a round each, in nanoseconds of a call.
+#[derive(Clone, Debug, PartialEq)]
+pub struct Times(Vec<f64>);
 
 impl Times {
-    /// Runs what is to be timed and keeps the time of a call, where it makes so many.
-    pub fn take<T>(&mut self, calls: u32, run: impl FnOnce() -> T) -> T {
-        let begin = Instant::now();
-        let result = run();
-        self.0.push(begin.elapsed() / calls);
-        result
-    }
-
-    pub fn median(&self) -> Duration {
-        let mut sorted = self.0.clone();
-        sorted.sort();
-        sorted[sorted.len() / 2]
-    }
-
-    pub fn minimum(&self) -> Duration {
-        *self.0.iter().min().expect("at least one round was timed")
+    pub fn median(&self) -> f64 {
+        median(self.0.clone())
     }
 
     /// Round by round, what these times are above others of the same rounds.
     pub fn above(&self, others: &Times) -> Times {
-        Times(self.0.iter().zip(&others.0).map(|(time, other)| time.saturating_sub(*other)).collect())
+        Times(self.0.iter().zip(&others.0).map(|(time, other)| (time - other).max(0.0)).collect())
     }
 
-    /// Prints the median and the minimum.
-    pub fn report(&self, who: &str) {
-        let microseconds = |time: Duration| time.as_secs_f64() * 1e6;
-        let (median, minimum) = (microseconds(self.median()), microseconds(self.minimum()));
-        println!("  {who:<24} median {median:>10.1} us   minimum {minimum:>10.1} us");
+    /// Round by round, the share of one of so many parts.
+    pub fn divided_by(&self, parts: usize) -> Times {
+        Times(self.0.iter().map(|time| time / parts as f64).collect())
+    }
+
+    /// The median of the rounds' ratios, so that a machine that changes its speed between rounds changes it little.
+    pub fn ratio_to(&self, others: &Times) -> f64 {
+        median(self.0.iter().zip(&others.0).map(|(time, other)| time / other).collect())
+    }
+}
+
+fn median(mut numbers: Vec<f64>) -> f64 {
+    numbers.sort_by(f64::total_cmp);
+    numbers[numbers.len() / 2]
+}
+
+/// One way to do a thing once.
+pub type Way<'a> = &'a mut dyn FnMut();
+
+/// The times of each way over so many rounds; each round begins with another of them.
+pub fn turn_about(rounds: usize, ways: &mut [Way]) -> Vec<Times> {
+    let calls = calls_of_a_sample(ways[0]);
+    let mut times = vec![Times(Vec::new()); ways.len()];
+    for turn in 0..rounds * ways.len() {
+        let (round, place) = (turn / ways.len(), turn % ways.len());
+        let way = (round + place) % ways.len();
+        times[way].0.push(time_of(ways[way], calls).as_nanos() as f64 / f64::from(calls));
+    }
+    times
+}
+
+// As many as the first way makes in a sample's time.
+fn calls_of_a_sample(way: Way) -> u32 {
+    let mut calls = 1;
+    while time_of(way, calls) < SAMPLE {
+        calls *= 2;
+    }
+    calls
+}
+
+fn time_of(way: Way, calls: u32) -> Duration {
+    let begin = Instant::now();
+    for _ in 0..calls {
+        black_box(&mut *way)();
+    }
+    begin.elapsed()
+}
+
+#[cfg(test)]
+mod tests {
+    use super::*;
+
+    #[test]
+    fn ratios_are_of_the_same_round() {
+        let (slow, fast) = (Times(vec![10.0, 1000.0, 20.0]), Times(vec![5.0, 500.0, 20.0]));
+        assert_eq!((slow.median(), fast.median(), slow.ratio_to(&fast)), (20.0, 20.0, 2.0));
+        assert_eq!(slow.above(&fast), Times(vec![5.0, 500.0, 0.0]));
+        assert_eq!(slow.divided_by(10), Times(vec![1.0, 100.0, 2.0]));
+    }
+
+    #[test]
+    fn every_way_is_timed_in_every_round() {
+        let (mut ones, mut twos) = (0_u64, 0_u64);
+        let wait = || {
+            let begin = Instant::now();
+            while begin.elapsed() < SAMPLE {}
+        };
+        let times = turn_about(
+            3,
+            &mut [
+                &mut || {
+                    ones += 1;
+                    wait();
+                },
+                &mut || twos += 1,
+            ],
+        );
+        assert_eq!(times.iter().map(|times| times.0.len()).collect::<Vec<_>>(), [3, 3]);
+        // The first way is called once more, to see how many calls a sample takes.
+        assert_eq!((ones, twos), (4, 3));
+        assert!(times[0].median() >= 2e6 && times[1].median() < 2e6);
     }
 }

@@ -1,0 +1,45 @@
+//! Times the library's calls against the independent reader's and, where there is one, the system's libsframe, and
+//! measures how much stack the calls use: one table of one run.
+
+mod sections;
+mod stack;
+mod table;
+mod times;
+
+use std::time::Instant;
+use suntimpani_tests::libsframe::Libsframe;
+use table::Line;
+
+fn main() {
+    let begin = Instant::now();
+    times::assert_alike_on_stored_cases();
+    let libsframe = Libsframe::open();
+    table::print_head();
+    let sections = sections::all();
+    for times in [times::of_check, times::of_find, times::of_caller, times::of_trace] {
+        for section in &sections {
+            times(section, libsframe.as_ref().ok()).iter().for_each(Line::print);
+        }
+        println!();
+    }
+    stack::print_lines();
+    println!();
+    print_notes(libsframe.err());
+    println!("measured in {:.0} s", begin.elapsed().as_secs_f64());
+}
+
+fn print_notes(no_libsframe: Option<String>) {
+    println!(
+        "Times are medians of the rounds, ratios medians of the rounds' ratios; all ways take turns in each round."
+    );
+    println!("find: a lookup in a section that was checked once. caller, trace: one call with its check.");
+    println!("frame: one of a trace's 64 frames, the check taken off, where it is not lost in the check's time.");
+    println!(
+        "libsframe: sframe_decode and sframe_decoder_free beside check, sframe_find_fre beside find. A decode looks at"
+    );
+    println!("the header and copies the rest: it checks no row.");
+    if let Some(why) = no_libsframe {
+        println!("No libsframe was timed: {why}.");
+    }
+    println!("stack: the most bytes that a call wrote below its return address, over so many calls.");
+}

@@ -1,0 +1,90 @@
+//! The sections that are timed.
+
+use suntimpani_tests::maker::{Function, Machine, Row, Section, SORTED};
+use suntimpani_tests::reader::{functions, Registers, Where};
+use suntimpani_tests::stream::Random;
+use suntimpani_tests::walk::Walk;
+use suntimpani_tests::{cases, laid, large, ADDRESS};
+
+const SEED: u64 = 20_260_102;
+
+/// How many frames a timed trace has.
+pub const FRAMES: u64 = 64;
+
+const SIZES: [usize; 5] = [100, 1_000, 10_000, 100_000, 838_859];
+
+/// A section, and what is asked of it.
+pub struct Timed {
+    pub name: String,
+    pub bytes: Vec<u8>,
+    /// The PCs of its finds; none where finds are not timed.
+    pub pcs: Vec<u64>,
+    /// The walk of its callers and traces; none where they are not timed.
+    pub walk: Option<Walk>,
+    /// Whether its check is a line of its own.
+    pub checked: bool,
+}
+
+/// Sections of every size by one construction, one that is not sorted, a large one of the corpus and, for the frames of
+/// a trace, two small ones.
+pub fn all() -> Vec<Timed> {
+    let mut all: Vec<Timed> = SIZES.map(|count| whole(name_of(count, ""), large::many_functions(count).bytes())).into();
+    all.push(whole("GNU as: 2,689 functions".to_string(), cases::corpus_section("gas_exe")));
+    let unsorted = large::many_functions_unsorted(1_000).bytes();
+    let pcs = pcs_over(&unsorted, 10_000);
+    all.push(Timed { name: name_of(1_000, ", not sorted"), bytes: unsorted, pcs, walk: None, checked: false });
+    let of_traces = |name: &str, bytes, walk| {
+        let name = name.to_string();
+        Timed { name, bytes, pcs: Vec::new(), walk: Some(walk), checked: false }
+    };
+    all.push(of_traces("S of document 01, one function calls itself", cases::S.to_vec(), calls_itself()));
+    let big = small_big_endian();
+    let walk = laid::through(&big, FRAMES as usize, SEED);
+    all.push(of_traces("AArch64 big-endian: 4 functions", big, walk));
+    all
+}
+
+fn whole(name: String, bytes: Vec<u8>) -> Timed {
+    let walk = laid::through(&bytes, FRAMES as usize, SEED);
+    Timed { name, pcs: pcs_over(&bytes, 100_000), walk: Some(walk), bytes, checked: true }
+}
+
+fn name_of(count: usize, more: &str) -> String {
+    let (thousands, rest) = (count / 1_000, count % 1_000);
+    let digits = if thousands == 0 { rest.to_string() } else { format!("{thousands},{rest:03}") };
+    format!("{digits} functions{more}")
+}
+
+// PCs all over the functions of a section, and over a hundredth of their range on both sides.
+fn pcs_over(section: &[u8], count: usize) -> Vec<u64> {
+    let functions = functions(section);
+    let low = functions.iter().map(|function| function.start).min().expect("the section has functions");
+    let high = functions.iter().map(|function| function.start + i64::from(function.size)).max().expect("as before");
+    let beyond = (high - low) / 100;
+    let mut random = Random::new(SEED);
+    let places = (0..count).map(|_| low - beyond + random.below((high - low + 2 * beyond) as u64) as i64);
+    places.map(|d| ADDRESS.wrapping_add_signed(d)).collect()
+}
+
+// A chain of frame pointers in the first function of S: FP and RA in 16 bytes a frame, and the stack's end at its top.
+fn calls_itself() -> Walk {
+    let (begin, pc) = (0x7000, 0x40_1008);
+    let chain = (1..=FRAMES).flat_map(|frame| [begin + 16 * frame, if frame == FRAMES { 0 } else { pc }]);
+    let registers = Registers { pc, sp: begin, fp: begin, lr: 0, first: 1 };
+    Walk {
+        lies: Where { section: 0x40_0000, stack: begin },
+        registers,
+        stack: chain.flat_map(u64::to_le_bytes).collect(),
+        limit: FRAMES,
+        words: 3 * FRAMES as usize,
+    }
+}
+
+fn small_big_endian() -> Vec<u8> {
+    let mut section = Section::new(Machine::Aarch64Big);
+    section.flags = SORTED;
+    let rows =
+        || vec![Row::new(0, 0, &[16, -8, -16]), Row::new(8, 0, &[48, -40, -48]), Row::new(60, 0, &[16, -8, -16])];
+    section.functions = (0..4).map(|index| Function::new(0x1000 + 64 * index, 64, 0, rows())).collect();
+    section.bytes()
+}

@@ -1,0 +1,197 @@
+//! Holds the library's calls against the independent reader's answers, and counts each that was compared.
+//!
+//! Everything lent to the library lies flush against a forbidden page, once at its front and once at its end, so that
+//! a read or a write outside it ends the program.
+#![forbid(unsafe_code)]
+
+mod counts;
+
+pub use counts::{Call, Counts};
+
+use crate::cases::Case;
+use crate::guarded::{Guarded, Side};
+use crate::library::{self, LIBRARY};
+use crate::reader::{self, Answer, Verdict};
+use crate::stream::{turn, Turn};
+use crate::walk::{lent, Walk, Walked};
+use std::cell::Cell;
+use std::fmt::Debug;
+use std::ops::Range;
+use std::sync::atomic::{AtomicBool, AtomicU64, Ordering::Relaxed};
+use std::thread;
+
+/// The longest section that is lent: above 2^32, so that a length of which only 32 bits are looked at shows.
+const MOST_BYTES: usize = (1 << 32) + (1 << 20);
+
+/// Memory for all that a call is lent, each part between forbidden pages of its own, and the counts.
+pub struct Comparison {
+    section: Guarded,
+    stack: Guarded,
+    words: Guarded,
+    counts: Counts,
+}
+
+/// What the reader says of a turn.
+struct Expected {
+    verdict: Verdict,
+    answers: Vec<Answer>,
+    walked: Vec<Walked>,
+}
+
+impl Default for Comparison {
+    fn default() -> Comparison {
+        let room = Guarded::with_room;
+        Comparison { section: room(MOST_BYTES), stack: room(1 << 20), words: room(8_192), counts: Counts::default() }
+    }
+}
+
+impl Comparison {
+    /// Makes every call of a turn, on both sides of the memory; the first difference is said.
+    pub fn compare(&mut self, turn: &Turn) -> Result<(), String> {
+        let expected = self.by_reader(turn);
+        self.hold_against(turn, &expected)
+    }
+
+    /// The same of a case, where first the reader must answer as the case's author states.
+    pub fn compare_case(&mut self, case: &Case) -> Result<(), String> {
+        let turn = Turn {
+            section: case.section.clone(),
+            length: case.section.len(),
+            questions: case.questions.iter().map(|question| (question.address, question.pc)).collect(),
+            walks: case.walks.iter().map(|(walk, _)| walk.clone()).collect(),
+        };
+        let said = self.by_reader(&turn);
+        let answers: Vec<Answer> = case.questions.iter().map(|question| question.expected).collect();
+        let walked: Vec<Walked> = case.walks.iter().map(|(_, walked)| walked.clone()).collect();
+        let of_author = |what| format!("{}: {what}, the reader and the case's author", case.name);
+        same(said.verdict, case.expected, || of_author("the verdict"))?;
+        same(&said.answers, &answers, || of_author("the lookups"))?;
+        same(&said.walked, &walked, || of_author("the walks"))?;
+        self.hold_against(&turn, &said).map_err(|difference| format!("{}: {difference}", case.name))
+    }
+
+    fn hold_against(&mut self, turn: &Turn, expected: &Expected) -> Result<(), String> {
+        for side in Side::BOTH {
+            self.lookups_at(side, turn, expected)?;
+            self.walks_at(side, turn, expected)?;
+        }
+        Ok(())
+    }
+
+    // The reader reads the memory that the library is lent.
+    fn by_reader(&mut self, turn: &Turn) -> Expected {
+        let section = self.section.longer_at(Side::Front, &turn.section, turn.length);
+        Expected {
+            verdict: reader::check(section),
+            answers: turn.questions.iter().map(|&(address, pc)| reader::lookup(section, address, pc)).collect(),
+            walked: turn.walks.iter().map(|walk| walk.by_reader(section)).collect(),
+        }
+    }
+
+    fn lookups_at(&mut self, side: Side, turn: &Turn, expected: &Expected) -> Result<(), String> {
+        let section = self.section.longer_at(side, &turn.section, turn.length);
+        same(LIBRARY.check(section), expected.verdict, || format!("the verdict, {side:?}"))?;
+        self.counts.count(Call::Check, expected.verdict.number());
+        for (&(address, pc), answer) in turn.questions.iter().zip(&expected.answers) {
+            let by_library = LIBRARY.lookup(section, address, pc);
+            same(by_library, library::Answer::of(answer), || format!("{address:x}, PC {pc:x}, {side:?}"))?;
+            self.counts.count(Call::Lookup, answer.refusal());
+        }
+        Ok(())
+    }
+
+    fn walks_at(&mut self, side: Side, turn: &Turn, expected: &Expected) -> Result<(), String> {
+        let section = self.section.longer_at(side, &turn.section, turn.length);
+        for (walk, walked) in turn.walks.iter().zip(&expected.walked) {
+            let stack = self.stack.bytes_at(side, &walk.stack);
+            let words = self.words.words_at(side, &lent(walk.words));
+            compare_walk(section, stack, words, walk, walked).map_err(|said| format!("{said}, {side:?}"))?;
+            self.counts.count(Call::Caller, walked.step.number());
+            self.counts.count(Call::Trace, walked.traced.ending.number());
+        }
+        Ok(())
+    }
+}
+
+// Every field of both answers, and every word of the buffer.
+fn compare_walk(section: &[u8], stack: &[u8], words: &mut [u64], walk: &Walk, expected: &Walked) -> Result<(), String> {
+    let step = LIBRARY.step(section, stack, walk.lies, walk.registers);
+    same(step, library::Step::of(&expected.step), || format!("the step, {walk:x?}"))?;
+    let traced = LIBRARY.trace(section, stack, walk.lies, walk.registers, walk.limit, words);
+    same(traced, library::Traced::of(&expected.traced), || format!("the trace, {walk:x?}"))?;
+    same(&words[..], &expected.words[..], || format!("the words, {walk:x?}"))
+}
+
+fn same<T: Debug + PartialEq>(library: T, reader: T, what: impl FnOnce() -> String) -> Result<(), String> {
+    if library == reader {
+        return Ok(());
+    }
+    Err(format!("{}: {library:x?}, and not {reader:x?}", what()))
+}
+
+thread_local! {
+    static TURN: Cell<u64> = const { Cell::new(0) };
+}
+
+/// The turn that this thread is at.
+pub fn turn_of_this_thread() -> u64 {
+    TURN.get()
+}
+
+/// Makes these turns of a seed.
+pub fn compare_turns(comparison: &mut Comparison, seed: u64, turns: Range<u64>) -> Result<(), String> {
+    for number in turns {
+        TURN.set(number);
+        let compared = comparison.compare(&turn(seed, number));
+        compared.map_err(|difference| format!("seed {seed}, turn {number}: {difference}"))?;
+    }
+    Ok(())
+}
+
+/// How far a comparison in parts has come.
+#[derive(Default)]
+pub struct Progress {
+    pub parts: AtomicU64,
+    pub calls: AtomicU64,
+    stopped: AtomicBool,
+}
+
+/// Does every part of a comparison, on as many threads as the machine has cores, until one of them finds a difference.
+/// What is counted is the same whichever thread does a part.
+///
+/// # Panics
+/// Where a part does.
+pub fn in_parts(
+    parts: u64,
+    progress: &Progress,
+    compare: impl Fn(&mut Comparison, u64) -> Result<(), String> + Sync,
+) -> Result<Counts, String> {
+    let next = AtomicU64::new(0);
+    let work = || {
+        let mut comparison = Comparison::default();
+        while let Some(part) = next_part(&next, parts, progress) {
+            let before = comparison.counts.calls();
+            compare(&mut comparison, part).inspect_err(|_| progress.stopped.store(true, Relaxed))?;
+            progress.parts.fetch_add(1, Relaxed);
+            progress.calls.fetch_add(comparison.counts.calls() - before, Relaxed);
+        }
+        Ok(comparison.counts)
+    };
+    let threads = thread::available_parallelism().map_or(1, usize::from);
+    thread::scope(|scope| {
+        let workers: Vec<_> = (0..threads).map(|_| scope.spawn(work)).collect();
+        let done = workers.into_iter().map(|worker| worker.join().expect("a part ended"));
+        done.reduce(|sum, counts| sum.and_then(|sum: Counts| counts.map(|counts| sum.with(&counts))))
+            .expect("there is at least one thread")
+    })
+}
+
+fn next_part(next: &AtomicU64, parts: u64, progress: &Progress) -> Option<u64> {
+    let part = next.fetch_add(1, Relaxed);
+    (part < parts && !progress.stopped.load(Relaxed)).then_some(part)
+}
+
+/// How many calls were compared without a difference, and the table of their numbers.
+pub fn report(counts: &Counts) -> String {
+    format!("compared: {} calls of the library, 0 differences\n{counts}", counts.calls())
+}

@@ -1,0 +1,148 @@
+//! How often each of the four calls was compared, by the number that it answered with.
+#![forbid(unsafe_code)]
+
+use std::collections::BTreeMap;
+use std::fmt;
+
+/// The four calls of the library, in the order of the table's columns.
+#[derive(Clone, Copy, Debug, PartialEq, Eq)]
+pub enum Call {
+    Check,
+    Lookup,
+    Caller,
+    Trace,
+}
+
+impl Call {
+    pub const ALL: [Call; 4] = [Call::Check, Call::Lookup, Call::Caller, Call::Trace];
+
+    pub fn name(self) -> &'static str {
+        ["check", "lookup", "caller", "trace"][self as usize]
+    }
+
+    /// Whether document 01 lets the call answer with a number; 0 is accepted, found or a caller.
+    pub fn gives(self, number: u64) -> bool {
+        let of_section = (1..=15).contains(&number);
+        let others: &[u64] = match self {
+            Call::Check => &[0],
+            Call::Lookup => &[0, 21, 22, 23],
+            Call::Caller => &[0, 21, 22, 23, 24, 25, 26, 27, 28, 41],
+            Call::Trace => &[21, 22, 23, 24, 25, 26, 27, 28, 30, 31, 41, 42, 43],
+        };
+        of_section || others.contains(&number)
+    }
+}
+
+/// For each number, how often each call answered with it.
+#[derive(Clone, Debug, Default, PartialEq, Eq)]
+pub struct Counts(BTreeMap<u64, [u64; 4]>);
+
+impl Counts {
+    pub fn count(&mut self, call: Call, number: u64) {
+        self.0.entry(number).or_default()[call as usize] += 1;
+    }
+
+    /// These and others together.
+    pub fn with(mut self, others: &Counts) -> Counts {
+        for (number, counts) in &others.0 {
+            let sums = self.0.entry(*number).or_default();
+            sums.iter_mut().zip(counts).for_each(|(sum, count)| *sum += count);
+        }
+        self
+    }
+
+    /// How many calls were compared.
+    pub fn calls(&self) -> u64 {
+        self.0.values().flatten().sum()
+    }
+
+    fn of(&self, call: Call, number: u64) -> u64 {
+        self.0.get(&number).map_or(0, |counts| counts[call as usize])
+    }
+
+    /// What a call answers with too seldom, or may never answer with and did: none where the comparison tried enough.
+    pub fn lacking(&self, enough: u64) -> Vec<String> {
+        let numbers: Vec<u64> = (0..=43).chain(self.0.keys().copied().filter(|number| *number > 43)).collect();
+        let cells = Call::ALL.into_iter().flat_map(|call| numbers.iter().map(move |number| (call, *number)));
+        let lacks = |(call, number): &(Call, u64)| {
+            let count = self.of(*call, *number);
+            if call.gives(*number) {
+                count < enough
+            } else {
+                count > 0
+            }
+        };
+        let said = |(call, number): (Call, u64)| format!("{} {number}: {}", call.name(), self.of(call, number));
+        cells.filter(lacks).map(said).collect()
+    }
+}
+
+// A line for each number, a column for each call; a stroke where the call never answers with the number.
+impl fmt::Display for Counts {
+    fn fmt(&self, to: &mut fmt::Formatter) -> fmt::Result {
+        write!(to, "number")?;
+        Call::ALL.iter().try_for_each(|call| write!(to, "{:>12}", call.name()))?;
+        for number in (0..=43).filter(|&number| Call::ALL.iter().any(|call| call.gives(number))) {
+            write!(to, "\n{number:>6}")?;
+            self.cells(to, number)?;
+        }
+        write!(to, "\n   all")?;
+        let sum = |call: Call| self.0.values().map(|counts| counts[call as usize]).sum::<u64>();
+        Call::ALL.iter().try_for_each(|&call| write!(to, "{:>12}", sum(call)))
+    }
+}
+
+impl Counts {
+    fn cells(&self, to: &mut fmt::Formatter, number: u64) -> fmt::Result {
+        for call in Call::ALL {
+            let count = self.of(call, number);
+            if call.gives(number) || count > 0 {
+                write!(to, "{count:>12}")?;
+            } else {
+                write!(to, "{:>12}", "-")?;
+            }
+        }
+        Ok(())
+    }
+}
+
+#[cfg(test)]
+mod tests {
+    use super::*;
+
+    fn every_number_once() -> Counts {
+        let mut counts = Counts::default();
+        for call in Call::ALL {
+            (0..=43).filter(|&number| call.gives(number)).for_each(|number| counts.count(call, number));
+        }
+        counts
+    }
+
+    #[test]
+    fn what_came_too_seldom_is_named() {
+        assert_eq!(every_number_once().lacking(1), Vec::<String>::new());
+        let mut counts = every_number_once().with(&every_number_once());
+        assert_eq!(counts.lacking(2), Vec::<String>::new());
+        counts.count(Call::Trace, 43);
+        assert_eq!(counts.lacking(3).len(), counts.0.values().flatten().filter(|&&count| count == 2).count());
+    }
+
+    #[test]
+    fn what_may_never_come_is_named() {
+        let mut counts = every_number_once();
+        counts.count(Call::Check, 21);
+        counts.count(Call::Lookup, 44);
+        assert_eq!(counts.lacking(1), ["check 21: 1", "lookup 44: 1"]);
+    }
+
+    #[test]
+    fn the_table_has_a_line_for_each_number() {
+        let table = every_number_once().to_string();
+        let lines: Vec<&str> = table.lines().collect();
+        assert_eq!(lines.len(), 1 + 1 + 15 + 8 + 2 + 3 + 1);
+        assert_eq!(lines[0], "number       check      lookup      caller       trace");
+        assert_eq!(lines[1], "     0           1           1           1           -");
+        assert_eq!(lines[29], "    43           -           -           -           1");
+        assert_eq!(lines[30], "   all          16          19          25          28");
+    }
+}

@@ -1,0 +1,32 @@
+//! Four calls of the library's form that do nothing: what they use of a stack, the form itself uses.
+
+use super::{Answer, Calls, Registers, Step, Traced, Verdict, Where};
+
+pub const EMPTY: Calls = Calls { check, lookup, caller, trace };
+
+extern "C" fn check(_: *const u8, _: usize) -> Verdict {
+    Verdict { number: 0, index: 0 }
+}
+
+extern "C" fn lookup(_: *const u8, _: usize, _: u64, _: u64) -> Answer {
+    Answer::default()
+}
+
+extern "C" fn caller(_: *const u8, _: usize, _: *const u8, _: usize, _: Where, registers: Registers) -> Step {
+    Step { registers, number: 0, index: 0 }
+}
+
+#[allow(clippy::too_many_arguments)]
+extern "C" fn trace(
+    _: *const u8,
+    _: usize,
+    _: *const u8,
+    _: usize,
+    _: Where,
+    _: Registers,
+    _: u64,
+    _: *mut u64,
+    _: usize,
+) -> Traced {
+    Traced { frames: 0, ending: 0, index: 0 }
+}

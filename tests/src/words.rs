@@ -1,0 +1,285 @@
+//! What the program `sframe` prints: the words of each number and the lines of each answer, by what the reader says.
+#![forbid(unsafe_code)]
+
+use crate::reader::{Answer, Base, Ending, Header, Outcome, Place, Registers, Row, Step, Verdict};
+use crate::walk::Walked;
+
+/// The most bytes of a section that the program reads.
+pub const MOST_SECTION_BYTES: usize = 6_291_456;
+
+/// The most bytes of a stack window that the program reads.
+pub const MOST_STACK_BYTES: usize = 1_048_576;
+
+/// Each command, and what it takes.
+pub const COMMANDS: [(&str, &str); 5] = [
+    ("check", "FILE"),
+    ("lookup", "FILE ADDRESS PC"),
+    ("caller", "FILE ADDRESS STACK STACK_ADDRESS PC SP FP LR FIRST"),
+    ("trace", "FILE ADDRESS STACK STACK_ADDRESS PC SP FP LR LIMIT"),
+    ("help", ""),
+];
+
+const WORDS: [(u64, &str); 28] = [
+    (1, "fewer than 28 bytes"),
+    (2, "more than 16,777,216 bytes"),
+    (3, "the magic is neither byte order's"),
+    (4, "the version is not 2"),
+    (5, "a flag outside 0x07 is set"),
+    (6, "the ABI is not 1, 2 or 3, or disagrees with the byte order"),
+    (7, "the fixed FP and RA offsets are not those of the ABI"),
+    (8, "the function table, the row area and the length do not fit together"),
+    (9, "an entry's info has bit 6 or 7 set, or a row type above 2"),
+    (10, "an entry has repeated blocks of size 0"),
+    (11, "the rows of an entry lie outside the row bytes"),
+    (12, "a row's info has offset size 3, or a count that is not allowed"),
+    (13, "a row start is not above the one before it"),
+    (14, "the sorted flag is set, and a start is below the end of the entry before it"),
+    (15, "the row counts of all entries do not add up to the header's"),
+    (21, "no function covers the PC"),
+    (22, "two or more functions cover the PC"),
+    (23, "no row of the function starts at or below the PC"),
+    (24, "the return address is signed"),
+    (25, "CFA is outside 0 to 2^64 - 1"),
+    (26, "CFA is below SP, or equal to it without the first-frame mark"),
+    (27, "RA has no place: only the first frame has it in LR"),
+    (28, "a needed word is not wholly inside the stack window"),
+    (30, "RA is 0: the outermost frame"),
+    (31, "the limit is full"),
+    (41, "the stack window ends above 2^64"),
+    (42, "the limit is above 256"),
+    (43, "the buffer has fewer than 3 words for each frame of the limit"),
+];
+
+/// The words of a number.
+///
+/// # Panics
+/// Where document 01 has no such number.
+pub fn words(number: u64) -> &'static str {
+    let found = WORDS.iter().find(|(known, _)| *known == number);
+    found.unwrap_or_else(|| panic!("{number} is no number of document 01")).1
+}
+
+fn refused(number: u64) -> String {
+    format!("refused: {number}, {}", words(number))
+}
+
+// 9 to 14 are broken by an entry, and name it.
+fn section_refused(number: u64, index: u64) -> String {
+    match number {
+        9..=14 => format!("{}, in function {index}\n", refused(number)),
+        _ => format!("{}\n", refused(number)),
+    }
+}
+
+/// What `check` prints of a section with this verdict.
+///
+/// # Panics
+/// Where an accepted section has no header.
+pub fn verdict(section: &[u8], verdict: Verdict) -> String {
+    match verdict {
+        Verdict::Refused { number, index } => section_refused(number, index),
+        Verdict::Accepted => {
+            let header = Header::read(section).expect("an accepted section has a header");
+            let sorted = if header.flags & 1 == 1 { "sorted" } else { "not sorted" };
+            let (functions, rows) = (counted(header.functions, "function"), counted(header.rows, "row"));
+            format!("accepted: {}, {functions}, {rows}, {sorted}\n", abi(header.abi))
+        }
+    }
+}
+
+fn abi(abi: u8) -> &'static str {
+    match abi {
+        1 => "AArch64 big-endian",
+        2 => "AArch64 little-endian",
+        _ => "AMD64",
+    }
+}
+
+fn counted(count: u32, what: &str) -> String {
+    let ending = if count == 1 { "" } else { "s" };
+    format!("{count} {what}{ending}")
+}
+
+/// What `lookup` prints.
+pub fn answer(answer: &Answer) -> String {
+    let said = match answer.outcome {
+        Outcome::Found { function, number, row } => found(function, number, &row),
+        Outcome::SectionRefused { number, index } => section_refused(number, index),
+        Outcome::NoFunction => format!("{}\n", refused(21)),
+        Outcome::Disputed { first, second } => format!("{}, the first two are {first} and {second}\n", refused(22)),
+        Outcome::NoRow { function } => format!("{}, in function {function}\n", refused(23)),
+    };
+    format!("{said}entries compared: {}\n", answer.compared)
+}
+
+fn found(function: u64, number: u64, row: &Row) -> String {
+    let base = match row.base {
+        Base::Fp => "FP",
+        Base::Sp => "SP",
+    };
+    let ra = match row.ra {
+        Place::Register => "RA is in LR".to_string(),
+        Place::AtOffset(offset) => format!("RA is at CFA {}", signed(offset)),
+    };
+    let fp = match row.fp {
+        Place::Register => "FP is unchanged".to_string(),
+        Place::AtOffset(offset) => format!("FP is at CFA {}", signed(offset)),
+    };
+    let mark = if row.signed { "RA is signed\n" } else { "" };
+    let place = format!("function {function}, row {number}, which starts at {}", row.start);
+    format!("found: {place}\nCFA is {base} {}\n{ra}\n{mark}{fp}\n", signed(row.cfa_offset))
+}
+
+fn signed(offset: i64) -> String {
+    let sign = if offset < 0 { '-' } else { '+' };
+    format!("{sign} {}", offset.unsigned_abs())
+}
+
+/// What `caller` prints.
+pub fn step(step: &Step) -> String {
+    match *step {
+        Step::Caller(Registers { pc, sp, fp, lr, .. }) => {
+            format!("caller:\nPC  {pc:016x}\nSP  {sp:016x}\nFP  {fp:016x}\nLR  {lr:016x}\n")
+        }
+        Step::Unsound { number, index, .. } => section_refused(number, index),
+        Step::Refused { number, .. } => format!("{}\n", refused(number)),
+    }
+}
+
+/// What `trace` prints.
+pub fn trace(walked: &Walked) -> String {
+    match walked.traced.ending {
+        Ending::Unsound { number, index } => section_refused(number, index),
+        Ending::Refused(number @ 41..=43) => format!("{}\n", refused(number)),
+        ending => {
+            let (frames, number) = (walked.traced.frames, ending.number());
+            format!("{}frames: {frames}\nended: {number}, {}\n", frames_of(walked), words(number))
+        }
+    }
+}
+
+fn frames_of(walked: &Walked) -> String {
+    let line = |(number, [cfa, ra, fp]): (usize, &[u64; 3])| format!("{number:>5}  {cfa:016x}  {ra:016x}  {fp:016x}\n");
+    let lines: String = walked.frames().iter().enumerate().map(line).collect();
+    let head = if lines.is_empty() { String::new() } else { format!("frame  {:<16}  {:<16}  FP\n", "CFA", "RA") };
+    head + &lines
+}
+
+/// What the program says to standard error of a wrong command line.
+pub mod wrong {
+    use super::COMMANDS;
+
+    pub fn no_command() -> String {
+        "sframe: no command; 'sframe help' lists them\n".to_string()
+    }
+
+    pub fn unknown(command: &str) -> String {
+        format!("sframe: '{command}' is no command; 'sframe help' lists them\n")
+    }
+
+    /// # Panics
+    /// Where there is no such command.
+    pub fn count(command: &str) -> String {
+        let known = COMMANDS.iter().find(|(name, _)| *name == command);
+        format!("sframe: '{command}' takes {}\n", known.expect("a command").1)
+    }
+
+    pub fn number(name: &str, given: &str) -> String {
+        format!("sframe: {name} is not a hexadecimal number of 1 to 16 digits: '{given}'\n")
+    }
+
+    pub fn missing(file: &str) -> String {
+        format!("sframe: {file}: No such file or directory\n")
+    }
+
+    pub fn directory(file: &str) -> String {
+        format!("sframe: {file}: Is a directory\n")
+    }
+
+    pub fn too_long(file: &str, most: usize) -> String {
+        format!("sframe: {file}: more than {most} bytes, the most that this program reads\n")
+    }
+}
+
+#[cfg(test)]
+mod tests {
+    use super::*;
+    use crate::cases::{all, S};
+    use crate::reader;
+
+    #[test]
+    fn every_number_has_words_and_no_other() {
+        let known: Vec<u64> = WORDS.iter().map(|(number, _)| *number).collect();
+        let numbers: Vec<u64> = (1..=15).chain(21..=28).chain([30, 31]).chain(41..=43).collect();
+        assert_eq!(known, numbers);
+    }
+
+    #[test]
+    fn a_section_is_told_by_its_abi_and_its_counts() {
+        let told = |section: &[u8]| verdict(section, reader::check(section));
+        assert_eq!(told(&S), "accepted: AMD64, 2 functions, 3 rows, sorted\n");
+        // The first function of S with its first row alone.
+        let mut one = [&S[..48], &S[68..71]].concat();
+        (one[3], one[8], one[12], one[16], one[24], one[40]) = (0, 1, 1, 3, 20, 1);
+        assert_eq!(told(&one), "accepted: AMD64, 1 function, 1 row, not sorted\n");
+        assert_eq!(told(&S[..27]), "refused: 1, fewer than 28 bytes\n");
+        let cut = "refused: 8, the function table, the row area and the length do not fit together\n";
+        assert_eq!(told(&S[..77]), cut);
+        let twice = verdict(&S, Verdict::Refused { number: 13, index: 0 });
+        assert_eq!(twice, "refused: 13, a row start is not above the one before it, in function 0\n");
+    }
+
+    #[test]
+    fn a_row_is_told_by_its_places() {
+        let framed =
+            "found: function 0, row 1, which starts at 4\nCFA is FP + 16\nRA is at CFA - 8\nFP is at CFA - 16\n";
+        let told = answer(&reader::lookup(&S, 0x40_0000, 0x40_1004));
+        assert_eq!(told, format!("{framed}entries compared: 2\n"));
+        let row =
+            Row { start: 7, base: Base::Sp, cfa_offset: 0, ra: Place::Register, fp: Place::Register, signed: true };
+        let outcome = Outcome::Found { function: 12, number: 3, row };
+        let in_registers = "found: function 12, row 3, which starts at 7\nCFA is SP + 0\nRA is in LR\nRA is signed\n";
+        let told = answer(&Answer { outcome, compared: 9 });
+        assert_eq!(told, format!("{in_registers}FP is unchanged\nentries compared: 9\n"));
+        assert_eq!(signed(i64::from(i32::MIN)), "- 2147483648");
+    }
+
+    #[test]
+    fn a_refused_lookup_names_its_functions() {
+        let told = |outcome| answer(&Answer { outcome, compared: 2 });
+        let none = "refused: 21, no function covers the PC\nentries compared: 2\n";
+        assert_eq!(told(Outcome::NoFunction), none);
+        let two = "refused: 22, two or more functions cover the PC, the first two are 0 and 1\nentries compared: 2\n";
+        assert_eq!(told(Outcome::Disputed { first: 0, second: 1 }), two);
+        let no_row =
+            "refused: 23, no row of the function starts at or below the PC, in function 0\nentries compared: 2\n";
+        assert_eq!(told(Outcome::NoRow { function: 0 }), no_row);
+    }
+
+    #[test]
+    fn callers_and_traces_are_told_as_columns() {
+        let cases = all();
+        let (k10, k12) = (&cases[0].walks[0].1, &cases[0].walks[2].1);
+        let caller = "caller:\nPC  0000000000401008\nSP  0000000000007008\nFP  0000000000007030\n";
+        assert_eq!(step(&k10.step), format!("{caller}LR  0000000000000000\n"));
+        let first = "    0  0000000000007008  0000000000401008  0000000000007030\n";
+        let second = "    1  0000000000007040  0000000000000000  0000000000000000\n";
+        let head = "frame  CFA               RA                FP\n";
+        let ended = "frames: 2\nended: 30, RA is 0: the outermost frame\n";
+        assert_eq!(trace(k10), format!("{head}{first}{second}{ended}"));
+        let ended = "frames: 1\nended: 28, a needed word is not wholly inside the stack window\n";
+        assert_eq!(trace(k12), format!("{head}{first}{ended}"));
+    }
+
+    #[test]
+    fn a_trace_without_frames_has_no_head() {
+        let walk = &all()[0].walks[0].0;
+        let old = walk.registers;
+        let told = |ending| trace(&walk.stated(Step::Refused { old, number: 21 }, &[], ending));
+        assert_eq!(told(Ending::Refused(21)), "frames: 0\nended: 21, no function covers the PC\n");
+        assert_eq!(told(Ending::Refused(42)), "refused: 42, the limit is above 256\n");
+        let unsound = "refused: 10, an entry has repeated blocks of size 0, in function 4\n";
+        assert_eq!(told(Ending::Unsound { number: 10, index: 4 }), unsound);
+        assert_eq!(step(&Step::Refused { old, number: 24 }), "refused: 24, the return address is signed\n");
+    }
+}

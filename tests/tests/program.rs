@@ -1,0 +1,374 @@
+//! The program `sframe`, run as people run it: what it prints, to the last byte, is what the independent reader says in
+//! the program's words.
+
+use std::collections::BTreeSet;
+use std::fs;
+use std::path::PathBuf;
+use std::process::{self, Command};
+use suntimpani_tests::cases::{self, corpus_section, Case, CORPUS_VERDICTS, S};
+use suntimpani_tests::reader::{self, Base, Outcome, Place, Verdict};
+use suntimpani_tests::walk::Walk;
+use suntimpani_tests::words::{self, wrong, COMMANDS, MOST_SECTION_BYTES, MOST_STACK_BYTES};
+use suntimpani_tests::{in_repository, ADDRESS};
+
+/// A folder of one test, in which the program is run; it is removed with its files at the end.
+struct Folder(PathBuf);
+
+impl Folder {
+    fn of(test: &str) -> Folder {
+        let path = std::env::temp_dir().join(format!("suntimpani-program-{}-{test}", process::id()));
+        fs::create_dir_all(&path).expect("a temporary folder");
+        Folder(path)
+    }
+
+    fn put(&self, name: &str, bytes: &[u8]) {
+        fs::write(self.0.join(name), bytes).expect("a temporary file");
+    }
+
+    /// The program's standard output and standard error.
+    fn run(&self, arguments: &[&str]) -> (String, String) {
+        let program = in_repository("target/bin/sframe");
+        assert!(program.is_file(), "target/bin/sframe is not there: run 'rt check sframe'");
+        let run = Command::new(program).args(arguments).current_dir(&self.0).output().expect("the program starts");
+        assert!(run.status.code().is_some(), "{arguments:?}: {}", run.status);
+        (text(run.stdout), text(run.stderr))
+    }
+
+    fn answers(&self, arguments: &[&str], expected: &str) {
+        assert_eq!(self.run(arguments), (expected.to_string(), String::new()), "{arguments:?}");
+    }
+
+    fn refuses(&self, arguments: &[&str], expected: &str) {
+        assert_eq!(self.run(arguments), (String::new(), expected.to_string()), "{arguments:?}");
+    }
+}
+
+impl Drop for Folder {
+    fn drop(&mut self) {
+        // What cannot be removed is left to the system's own care of the folder.
+        let _ = fs::remove_dir_all(&self.0);
+    }
+}
+
+fn text(bytes: Vec<u8>) -> String {
+    String::from_utf8(bytes).expect("the program prints UTF-8")
+}
+
+// Numbers are given in each of their forms, by turns.
+fn given(number: u64) -> String {
+    match number % 4 {
+        0 => format!("{number:x}"),
+        1 => format!("0x{number:x}"),
+        2 => format!("{number:016x}"),
+        _ => format!("0x{number:016x}"),
+    }
+}
+
+fn check(folder: &Folder, section: &[u8]) {
+    folder.put("section", section);
+    folder.answers(&["check", "section"], &words::verdict(section, reader::check(section)));
+}
+
+fn lookup(folder: &Folder, section: &[u8], address: u64, pc: u64) {
+    folder.put("section", section);
+    let expected = words::answer(&reader::lookup(section, address, pc));
+    folder.answers(&["lookup", "section", &given(address), &given(pc)], &expected);
+}
+
+// A caller and a trace. The program lends its own buffer, which has room for every limit.
+fn walk(folder: &Folder, section: &[u8], walk: &Walk) {
+    let walk = Walk { words: 768, ..walk.clone() };
+    let (walked, lies, from) = (walk.by_reader(section), walk.lies, walk.registers);
+    folder.put("section", section);
+    folder.put("stack", &walk.stack);
+    let numbers = [from.pc, from.sp, from.fp, from.lr].map(given);
+    let [pc, sp, fp, lr] = numbers.each_ref().map(String::as_str);
+    let (address, stack_address) = (given(lies.section), given(lies.stack));
+    let (first, limit) = (given(from.first), given(walk.limit));
+    let arguments = |command, last| [command, "section", &address, "stack", &stack_address, pc, sp, fp, lr, last];
+    folder.answers(&arguments("caller", &first), &words::step(&walked.step));
+    folder.answers(&arguments("trace", &limit), &words::trace(&walked));
+}
+
+#[test]
+fn every_section_of_the_corpus_is_checked() {
+    let folder = Folder::of("corpus");
+    for (name, expected) in CORPUS_VERDICTS {
+        let section = corpus_section(name);
+        assert_eq!(reader::check(&section), expected, "{name}");
+        check(&folder, &section);
+    }
+}
+
+// The texts by hand, so that not all rests on `words`.
+#[test]
+fn the_lookups_of_document_01_are_answered() {
+    let folder = Folder::of("lookups");
+    folder.put("S", &S);
+    folder.answers(&["check", "S"], "accepted: AMD64, 2 functions, 3 rows, sorted\n");
+    let entered = |function, compared| {
+        let place = format!("found: function {function}, row 0, which starts at 0");
+        format!("{place}\nCFA is SP + 8\nRA is at CFA - 8\nFP is unchanged\nentries compared: {compared}\n")
+    };
+    let framed = "found: function 0, row 1, which starts at 4\nCFA is FP + 16\nRA is at CFA - 8\nFP is at CFA - 16\n";
+    let framed = format!("{framed}entries compared: 2\n");
+    let none = "refused: 21, no function covers the PC\nentries compared: 2\n".to_string();
+    let answers = [
+        ("401003", entered(0, 2)),
+        ("0x401004", framed.clone()),
+        ("000000000040101f", framed),
+        ("400fff", none.clone()),
+        ("401020", none.clone()),
+        ("0x000000000040103F", none),
+        ("401040", entered(1, 1)),
+    ];
+    for (pc, expected) in answers {
+        folder.answers(&["lookup", "S", "400000", pc], &expected);
+    }
+}
+
+#[test]
+fn the_walks_of_document_01_are_answered() {
+    let folder = Folder::of("walks");
+    let mut stack = [0; 64];
+    stack[..3].copy_from_slice(&[0x08, 0x10, 0x40]);
+    folder.put("S", &S);
+    folder.put("stack", &stack);
+    folder.put("shorter", &stack[..63]);
+    let from = |command, stack, last| [command, "S", "400000", stack, "7000", "401044", "7000", "7030", "0", last];
+    let caller = "caller:\nPC  0000000000401008\nSP  0000000000007008\nFP  0000000000007030\nLR  0000000000000000\n";
+    folder.answers(&from("caller", "stack", "1"), caller);
+    let head = "frame  CFA               RA                FP\n";
+    let first = format!("{head}    0  0000000000007008  0000000000401008  0000000000007030\n");
+    let second = format!("{first}    1  0000000000007040  0000000000000000  0000000000000000\n");
+    let whole = format!("{second}frames: 2\nended: 30, RA is 0: the outermost frame\n");
+    folder.answers(&from("trace", "stack", "2"), &whole);
+    folder.answers(&from("trace", "stack", "0"), &whole);
+    folder.answers(&from("trace", "stack", "1"), &format!("{first}frames: 1\nended: 31, the limit is full\n"));
+    let ended = "frames: 1\nended: 28, a needed word is not wholly inside the stack window\n";
+    folder.answers(&from("trace", "shorter", "2"), &format!("{first}{ended}"));
+    folder.answers(&from("trace", "stack", "101"), "refused: 42, the limit is above 256\n");
+}
+
+fn case_named<'a>(cases: &'a [Case], name: &str) -> &'a Case {
+    cases.iter().find(|case| case.name == name).unwrap_or_else(|| panic!("no case {name}"))
+}
+
+#[test]
+fn the_cases_of_document_01_are_answered() {
+    let folder = Folder::of("cases");
+    let cases = cases::all();
+    for name in ["K1_S", "K2_S_77_bytes", "K3_S_27_bytes", "K8_S_second_start_101f", "K9_S_second_start_101f_unsorted"]
+    {
+        let case = case_named(&cases, name);
+        check(&folder, &case.section);
+        case.questions.iter().take(24).for_each(|asked| lookup(&folder, &case.section, asked.address, asked.pc));
+        case.walks.iter().for_each(|(one, _)| walk(&folder, &case.section, one));
+    }
+    for name in ["examples_aarch64", "examples_aarch64be"] {
+        let case = case_named(&cases, name);
+        case.walks.iter().for_each(|(one, _)| walk(&folder, &case.section, one));
+    }
+}
+
+// The first case of every number that a section is refused with; 2 is longer than what the program reads.
+#[test]
+fn every_refusal_of_a_section_is_told() {
+    let folder = Folder::of("refused");
+    let mut told = BTreeSet::new();
+    for case in cases::all() {
+        let Verdict::Refused { number, .. } = case.expected else { continue };
+        let Some((first, _)) = case.walks.first() else { continue };
+        if told.insert(number) {
+            check(&folder, &case.section);
+            lookup(&folder, &case.section, ADDRESS, ADDRESS);
+            walk(&folder, &case.section, first);
+        }
+    }
+    assert_eq!(told, [1].into_iter().chain(3..=15).collect());
+}
+
+/// What tells the lines of one answer from those of another.
+fn kind_of(outcome: &Outcome) -> String {
+    let Outcome::Found { row, .. } = outcome else {
+        return format!("{outcome:?}").split(' ').next().unwrap_or_default().to_string();
+    };
+    let place = |place| if place == Place::Register { "register" } else { "offset" };
+    let base = if row.base == Base::Sp { "SP" } else { "FP" };
+    let sign = if row.cfa_offset < 0 { "-" } else { "+" };
+    format!("{base}{sign} RA {} FP {} signed {}", place(row.ra), place(row.fp), row.signed)
+}
+
+// One lookup of every kind in each machine's stored cases, those of the corpus first.
+#[test]
+fn every_kind_of_answer_is_told() {
+    let folder = Folder::of("kinds");
+    let mut told = BTreeSet::new();
+    for case in cases::all().iter().filter(|case| case.expected == Verdict::Accepted) {
+        for asked in &case.questions {
+            if told.insert((case.section[4], kind_of(&asked.expected.outcome))) {
+                lookup(&folder, &case.section, asked.address, asked.pc);
+            }
+        }
+    }
+    for kind in ["NoFunction", "Disputed", "NoRow", "SP+ RA offset FP register signed false"] {
+        assert!((1..=3).all(|abi| told.contains(&(abi, kind.to_string()))), "{kind} is told of every machine");
+    }
+    for kind in ["SP+ RA register FP register signed false", "SP+ RA offset FP offset signed true"] {
+        assert!((1..=2).all(|abi| told.contains(&(abi, kind.to_string()))), "{kind} is told of AArch64");
+    }
+    assert!(told.iter().any(|(_, kind)| kind.starts_with("SP-")) && told.len() >= 20, "{told:?}");
+}
+
+// One walk of every pair of a step's number and a trace's in each machine's stored cases, and those of the corpus.
+#[test]
+fn every_ending_is_told() {
+    let folder = Folder::of("endings");
+    let (mut told, mut numbers) = (BTreeSet::new(), BTreeSet::new());
+    let corpus = CORPUS_VERDICTS.map(|(name, _)| name);
+    for case in cases::all().iter().filter(|case| case.expected == Verdict::Accepted) {
+        for (one, walked) in &case.walks {
+            let ends = (walked.step.number(), walked.traced.ending.number());
+            if told.insert((case.section[4], ends)) || corpus.contains(&case.name.as_str()) {
+                walk(&folder, &case.section, one);
+                numbers.extend([ends.0, ends.1]);
+            }
+        }
+    }
+    // 43 is told of none: the program's own buffer has room for every limit.
+    let expected = BTreeSet::from([0, 21, 22, 23, 24, 25, 26, 27, 28, 30, 31, 41, 42]);
+    assert!(numbers.is_superset(&expected), "{numbers:?}");
+}
+
+#[test]
+fn a_section_is_read_up_to_its_most_bytes() {
+    let folder = Folder::of("section");
+    check(&folder, &[]);
+    let mut longest = vec![0; MOST_SECTION_BYTES];
+    longest[..78].copy_from_slice(&S);
+    check(&folder, &longest);
+    // What is behind S is unused row bytes, so that it is accepted only where the whole file was read.
+    longest[16..20].copy_from_slice(&(MOST_SECTION_BYTES as u32 - 68).to_le_bytes());
+    assert_eq!(reader::check(&longest), Verdict::Accepted);
+    check(&folder, &longest);
+    longest.push(0);
+    folder.put("section", &longest);
+    let too_long = wrong::too_long("section", MOST_SECTION_BYTES);
+    folder.refuses(&["check", "section"], &too_long);
+    folder.refuses(&["lookup", "section", "0", "0"], &too_long);
+}
+
+// K10 at the very end of a window of the most bytes.
+#[test]
+fn a_stack_is_read_up_to_its_most_bytes() {
+    let folder = Folder::of("stack");
+    let cases = cases::all();
+    let mut deep = case_named(&cases, "K1_S").walks[0].0.clone();
+    let begin = 0x7fff_0000_0000;
+    let moved = begin + (MOST_STACK_BYTES - deep.stack.len()) as u64 - deep.lies.stack;
+    (deep.registers.sp, deep.registers.fp) = (deep.registers.sp + moved, deep.registers.fp + moved);
+    deep.stack.splice(0..0, vec![0; MOST_STACK_BYTES - deep.stack.len()]);
+    deep.lies.stack = begin;
+    assert_eq!(deep.by_reader(&S).traced.frames, 2);
+    walk(&folder, &S, &deep);
+}
+
+#[test]
+fn a_wrong_command_is_told() {
+    let folder = Folder::of("commands");
+    folder.put("S", &S);
+    folder.refuses(&[], &wrong::no_command());
+    folder.refuses(&["foo", "S"], &wrong::unknown("foo"));
+    for command in ["foo", "", "Check", "checks", "-h", "S"] {
+        folder.refuses(&[command], &wrong::unknown(command));
+    }
+}
+
+#[test]
+fn a_wrong_count_is_told() {
+    let folder = Folder::of("counts");
+    for (command, takes) in COMMANDS.into_iter().filter(|(_, takes)| !takes.is_empty()) {
+        let count = takes.split(' ').count();
+        // Nothing of them is looked at: neither is a file, nor a number.
+        let refuses = |count| folder.refuses(&[&[command][..], &vec!["?"; count]].concat(), &wrong::count(command));
+        [0, count - 1, count + 1, 20].into_iter().for_each(refuses);
+    }
+}
+
+const NO_NUMBERS: [&str; 9] = ["", "xyz", "0x", "12345678123456781", "0x12345678123456781", "-1", "+1", "1 ", "0x0x1"];
+
+// Every number of every command, all other arguments being right.
+#[test]
+fn a_wrong_number_is_told() {
+    let folder = Folder::of("numbers");
+    folder.put("FILE", &S);
+    folder.put("STACK", &[0; 8]);
+    for (command, takes) in COMMANDS {
+        let names: Vec<&str> = takes.split(' ').collect();
+        let numbers = (0..names.len()).filter(|&place| !["FILE", "STACK", ""].contains(&names[place]));
+        numbers.for_each(|place| wrong_numbers_at(&folder, command, &names, place));
+    }
+}
+
+fn wrong_numbers_at(folder: &Folder, command: &str, names: &[&str], place: usize) {
+    for given in NO_NUMBERS {
+        let right = names.iter().map(|name| if ["FILE", "STACK"].contains(name) { name } else { "1" });
+        let mut arguments: Vec<&str> = [command].into_iter().chain(right).collect();
+        arguments[1 + place] = given;
+        folder.refuses(&arguments, &wrong::number(names[place], given));
+    }
+}
+
+#[test]
+fn a_wrong_file_is_told() {
+    let folder = Folder::of("files");
+    folder.put("S", &S);
+    fs::create_dir(folder.0.join("somedirectory")).expect("a folder in the temporary one");
+    for (file, said) in [("nofile", wrong::missing("nofile")), ("somedirectory", wrong::directory("somedirectory"))] {
+        folder.refuses(&["check", file], &said);
+        folder.refuses(&["lookup", file, "0", "0"], &said);
+        folder.refuses(&walk_of("caller", file, "S"), &said);
+        folder.refuses(&walk_of("caller", "S", file), &said);
+        folder.refuses(&walk_of("trace", file, "S"), &said);
+        folder.refuses(&walk_of("trace", "S", file), &said);
+    }
+}
+
+#[test]
+fn a_stack_of_too_many_bytes_is_told() {
+    let folder = Folder::of("long");
+    folder.put("S", &S);
+    folder.put("long", &vec![0; MOST_STACK_BYTES + 1]);
+    let said = wrong::too_long("long", MOST_STACK_BYTES);
+    folder.refuses(&walk_of("caller", "S", "long"), &said);
+    folder.refuses(&walk_of("trace", "S", "long"), &said);
+}
+
+fn walk_of<'a>(command: &'a str, section: &'a str, stack: &'a str) -> [&'a str; 10] {
+    [command, section, "0", stack, "0", "0", "0", "0", "0", "0"]
+}
+
+// Of several wrong arguments the leftmost is told, behind the count of them all.
+#[test]
+fn the_leftmost_wrong_argument_is_told() {
+    let folder = Folder::of("order");
+    folder.put("S", &S);
+    folder.refuses(&["lookup", "nofile", "xyz"], &wrong::count("lookup"));
+    folder.refuses(&["lookup", "nofile", "xyz", "zzz"], &wrong::missing("nofile"));
+    folder.refuses(&["lookup", "S", "xyz", "zzz"], &wrong::number("ADDRESS", "xyz"));
+    folder.refuses(&["trace", "S", "xyz", "nofile", "", "", "", "", "", ""], &wrong::number("ADDRESS", "xyz"));
+    folder.refuses(&["trace", "S", "0", "nofile", "", "", "", "", "", ""], &wrong::missing("nofile"));
+    folder.refuses(&["caller", "S", "0", "S", "0", "0", "0", "q", "r", "s"], &wrong::number("FP", "q"));
+}
+
+#[test]
+fn help_lists_every_command() {
+    let folder = Folder::of("help");
+    let (out, err) = folder.run(&["help"]);
+    assert_eq!(err, "");
+    for (command, takes) in COMMANDS {
+        let form = format!("sframe {command} {takes}");
+        assert!(out.lines().any(|line| line.trim() == form.trim() || line.contains(&form)), "{form}\n{out}");
+    }
+    assert!(out.contains("hexadecimal") && out.lines().count() >= 2 * COMMANDS.len(), "{out}");
+}
