@@ -1,0 +1,35 @@
+// What `sframe help` prints.
+use crate::say::say;
+
+fn show_forms() {
+    say(b"sframe check FILE\n");
+    say(b"    whether a section is accepted, else the first broken rule\n");
+    say(b"sframe lookup FILE ADDRESS PC\n");
+    say(b"    the function and the row for a PC\n");
+    say(b"sframe caller FILE ADDRESS STACK STACK_ADDRESS PC SP FP LR FIRST\n");
+    say(b"    the registers of the caller\n");
+    say(b"sframe trace FILE ADDRESS STACK STACK_ADDRESS PC SP FP LR LIMIT\n");
+    say(b"    every caller in turn, at most LIMIT of them\n");
+    say(b"sframe help\n");
+    say(b"    this text\n");
+}
+
+fn show_arguments() {
+    say(b"\n");
+    say(
+        b"FILE has the bytes of an .sframe section, at most 6291456, and ADDRESS is where the section is loaded.\n",
+    );
+    say(
+        b"STACK has the bytes of the stack window, at most 1048576, and STACK_ADDRESS is where its first byte lies.\n",
+    );
+    say(
+        b"PC, SP, FP and LR are the registers. FIRST is 0 for no first-frame mark, any other number for the mark.\n",
+    );
+    say(b"LIMIT is the most frames, up to 100 (256 of them), and 0 stands for 40 (64 of them).\n");
+    say(b"All numbers given are hexadecimal, 1 to 16 digits, with or without a leading 0x.\n");
+}
+
+pub fn show_help() {
+    show_forms();
+    show_arguments();
+}

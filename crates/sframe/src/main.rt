@@ -1,0 +1,167 @@
+// The program for people: it checks an `.sframe` section, looks a PC up in it, works out one caller, or walks a trace.
+// Every answer is the library's; this program reads the arguments and the files, and prints.
+mod arguments;
+mod help;
+mod hexadecimal;
+mod refusals;
+mod say;
+mod show;
+mod show_walks;
+mod walks;
+
+use crate::arguments::Loaded;
+use crate::arguments::file_given;
+use crate::arguments::number_given;
+use crate::help::show_help;
+use crate::hexadecimal::Parsed;
+use crate::say::complain;
+use crate::show::show_answer;
+use crate::show::show_verdict;
+use crate::walks::Walk;
+use crate::walks::answer_walk;
+use lookup::look::lookup;
+
+// The longest section. With the longest stack window it fits the usual stack of 8 MiB.
+const SECTION: usize = 6_291_456;
+
+// What is asked of a section.
+enum Question {
+    Check,
+    Lookup,
+    Walks(Walk),
+}
+
+enum Command {
+    Help,
+    Asks(Question),
+    Unknown,
+}
+
+fn is_same(a: &[u8], b: &[u8]) -> bool {
+    if a.len() != b.len() {
+        return false;
+    }
+    let mut i = 0;
+    while i < a.len() {
+        if a[i] != b[i] {
+            return false;
+        }
+        i = i + 1;
+    }
+    true
+}
+
+fn command_of(word: &[u8]) -> Command {
+    if is_same(word, b"check") {
+        return Command::Asks(Question::Check);
+    }
+    if is_same(word, b"lookup") {
+        return Command::Asks(Question::Lookup);
+    }
+    if is_same(word, b"caller") {
+        return Command::Asks(Question::Walks(Walk::Caller));
+    }
+    if is_same(word, b"trace") {
+        return Command::Asks(Question::Walks(Walk::Trace));
+    }
+    if is_same(word, b"help") {
+        return Command::Help;
+    }
+    Command::Unknown
+}
+
+fn complain_of_word(word: &[u8]) {
+    complain(b"sframe: '");
+    complain(word);
+    complain(b"' is no command; 'sframe help' lists them\n");
+}
+
+// Whether as many arguments are given as are taken.
+fn are_all(given: usize, taken: usize, complaint: &[u8]) -> bool {
+    if given == taken {
+        return true;
+    }
+    complain(complaint);
+    false
+}
+
+fn has_all(question: Question, given: usize) -> bool {
+    match question {
+        Question::Check => are_all(given, 1, b"sframe: 'check' takes FILE\n"),
+        Question::Lookup => are_all(given, 3, b"sframe: 'lookup' takes FILE ADDRESS PC\n"),
+        Question::Walks(asked) => match asked {
+            Walk::Caller => are_all(
+                given,
+                9,
+                b"sframe: 'caller' takes FILE ADDRESS STACK STACK_ADDRESS PC SP FP LR FIRST\n",
+            ),
+            Walk::Trace => are_all(
+                given,
+                9,
+                b"sframe: 'trace' takes FILE ADDRESS STACK STACK_ADDRESS PC SP FP LR LIMIT\n",
+            ),
+        },
+    }
+}
+
+fn answer_lookup(section: &[u8]) {
+    let Parsed::Number(address) = number_given(3, b"ADDRESS") else {
+        return;
+    };
+    let Parsed::Number(pc) = number_given(4, b"PC") else {
+        return;
+    };
+    show_answer(lookup(section, address, pc));
+}
+
+fn answer(question: Question, section: &[u8]) {
+    match question {
+        Question::Check => show_verdict(section),
+        Question::Lookup => answer_lookup(section),
+        Question::Walks(asked) => answer_walk(asked, section),
+    }
+}
+
+fn section_room() -> [u8; SECTION + 1] {
+    [0u8; SECTION + 1]
+}
+
+// Argument 2 is the section, whatever is asked.
+fn ask(question: Question) {
+    let mut room = section_room();
+    match file_given(2, b"sframe: FILE", SECTION as u64, &mut room) {
+        Loaded::Failed => {}
+        Loaded::Bytes(n) => answer(question, &room[..n]),
+    }
+}
+
+fn run(word: &[u8], given: usize) {
+    match command_of(word) {
+        Command::Unknown => complain_of_word(word),
+        Command::Help => {
+            if are_all(given, 0, b"sframe: 'help' takes no arguments\n") {
+                show_help();
+            }
+        }
+        Command::Asks(question) => {
+            if has_all(question, given) {
+                ask(question);
+            }
+        }
+    }
+}
+
+fn main() {
+    let given = os::arg_count();
+    if given < 2 {
+        complain(b"sframe: no command; 'sframe help' lists them\n");
+        return;
+    }
+    let mut word = io::buffer();
+    let n = os::arg(1, &mut word);
+    if os::errno() != 0 {
+        complain_of_word(&word);
+        return;
+    }
+    run(&word[..n], given - 2);
+}

@@ -1,0 +1,142 @@
+// Verdicts and the answers of a lookup as lines of text.
+use crate::refusals::show_dispute;
+use crate::refusals::show_refused;
+use crate::refusals::show_refused_in;
+use crate::refusals::show_unsound;
+use crate::say::say;
+use crate::say::say_number;
+use accept::section_check::check;
+use accept::verdict::Verdict;
+use lookup::answer::Answer;
+use lookup::answer::Outcome;
+use numbers::offset::Offset;
+use numbers::offset::Shift;
+use numbers::offset::shift_of;
+use section::header::Layout;
+use section::header::layout_at;
+use section::row::Base;
+use section::row::Place;
+use section::row::Row;
+use section::shape::Abi;
+
+fn show_abi(abi: Abi) {
+    match abi {
+        Abi::Aarch64Big => say(b"AArch64 big-endian"),
+        Abi::Aarch64Little => say(b"AArch64 little-endian"),
+        Abi::Amd64 => say(b"AMD64"),
+    }
+}
+
+// A count of things, whose name takes an s where there is not one of them.
+fn show_count(n: u64, thing: &[u8]) {
+    say(b", ");
+    say_number(n);
+    say(thing);
+    if n != 1 {
+        say(b"s");
+    }
+}
+
+fn show_accepted(layout: Layout) {
+    let abi = layout.abi;
+    say(b"accepted: ");
+    show_abi(abi);
+    show_count(layout.functions as u64, b" function");
+    show_count(layout.rows as u64, b" row");
+    if layout.sorted {
+        say(b", sorted\n");
+        return;
+    }
+    say(b", not sorted\n");
+}
+
+// Whether a section is accepted, and what it holds.
+pub fn show_verdict(section: &[u8]) {
+    match check(section) {
+        Verdict::Accepted => show_accepted(layout_at(section)),
+        Verdict::Refused { number, index } => show_unsound(number, index),
+    }
+}
+
+fn show_base(base: Base) {
+    match base {
+        Base::Fp => say(b"FP"),
+        Base::Sp => say(b"SP"),
+    }
+}
+
+// An offset with its sign, and 0 as + 0.
+fn show_offset(offset: Offset) {
+    match shift_of(offset) {
+        Shift::Up(by) => {
+            say(b" + ");
+            say_number(by);
+        }
+        Shift::Down(by) => {
+            say(b" - ");
+            say_number(by);
+        }
+    }
+}
+
+// Where a register was saved, behind its name; `unsaved` says that it was not.
+fn show_place(place: Place, name: &[u8], unsaved: &[u8]) {
+    say(name);
+    match place {
+        Place::Register => say(unsaved),
+        Place::AtOffset(offset) => {
+            say(b" is at CFA");
+            show_offset(offset);
+        }
+    }
+    say(b"\n");
+}
+
+fn show_row(row: Row) {
+    let base = row.base;
+    let cfa = row.cfa;
+    let ra = row.ra;
+    let fp = row.fp;
+    say(b"CFA is ");
+    show_base(base);
+    show_offset(cfa);
+    say(b"\n");
+    show_place(ra, b"RA", b" is in LR");
+    if row.signed {
+        say(b"RA is signed\n");
+    }
+    show_place(fp, b"FP", b" is unchanged");
+}
+
+fn show_found(row: Row, function: u64, number: u64) {
+    say(b"found: function ");
+    say_number(function);
+    say(b", row ");
+    say_number(number);
+    say(b", which starts at ");
+    say_number(row.start as u64);
+    say(b"\n");
+    show_row(row);
+}
+
+fn show_outcome(outcome: Outcome) {
+    match outcome {
+        Outcome::Found {
+            row,
+            function,
+            number,
+        } => show_found(row, function, number),
+        Outcome::Unsound { number, index } => show_unsound(number, index),
+        Outcome::NoFunction => show_refused(21),
+        Outcome::Dispute { first, second } => show_dispute(first, second),
+        Outcome::NoRow { function } => show_refused_in(23, function),
+    }
+}
+
+pub fn show_answer(answer: Answer) {
+    let outcome = answer.outcome;
+    show_outcome(outcome);
+    say(b"entries compared: ");
+    say_number(answer.compared);
+    say(b"\n");
+}

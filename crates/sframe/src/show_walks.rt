@@ -1,0 +1,92 @@
+// Callers and traces as lines of text.
+use crate::refusals::show_ended;
+use crate::refusals::show_refused;
+use crate::refusals::show_unsound;
+use crate::say::say;
+use crate::say::say_number;
+use crate::say::say_word;
+use caller::registers::Registers;
+use caller::registers::Step;
+use trace::answer::Ending;
+use trace::answer::Traced;
+
+fn show_register(name: &[u8], value: u64) {
+    say(name);
+    say(b"  ");
+    say_word(value);
+    say(b"\n");
+}
+
+fn show_caller(caller: Registers) {
+    say(b"caller:\n");
+    show_register(b"PC", caller.pc);
+    show_register(b"SP", caller.sp);
+    show_register(b"FP", caller.fp);
+    show_register(b"LR", caller.lr);
+}
+
+pub fn show_step(step: Step) {
+    match step {
+        Step::Caller(caller) => show_caller(caller),
+        Step::Unsound { old, number, index } => show_unsound(number, index),
+        Step::Refused { old, number } => show_refused(number),
+    }
+}
+
+// A frame's number, right-aligned in 5: a trace has at most 256 frames.
+fn show_frame_number(n: u64) {
+    if n < 10 {
+        say(b" ");
+    }
+    if n < 100 {
+        say(b" ");
+    }
+    say(b"  ");
+    say_number(n);
+}
+
+fn show_frame(n: u64, cfa: u64, ra: u64, fp: u64) {
+    show_frame_number(n);
+    say(b"  ");
+    say_word(cfa);
+    say(b"  ");
+    say_word(ra);
+    say(b"  ");
+    say_word(fp);
+    say(b"\n");
+}
+
+// The words of frames, three in a line.
+fn show_table(words: &[u64]) {
+    let mut at = 0;
+    say(b"frame  CFA               RA                FP\n");
+    while 3 <= words.len() - at {
+        show_frame((at / 3) as u64, words[at], words[at + 1], words[at + 2]);
+        at = at + 3;
+    }
+}
+
+// A trace that was made: its frames, if there are any, and why it ended.
+fn show_frames(words: &[u64], frames: u64, number: u64) {
+    if 0 < frames {
+        show_table(words);
+    }
+    say(b"frames: ");
+    say_number(frames);
+    say(b"\n");
+    show_ended(number);
+}
+
+// A trace by its answer and the words of its frames. 41 to 43 refuse it before any frame.
+pub fn show_trace(traced: Traced, words: &[u64]) {
+    let ending = traced.ending;
+    match ending {
+        Ending::Outermost => show_frames(words, traced.frames, 30),
+        Ending::Full => show_frames(words, traced.frames, 31),
+        Ending::Refused(number) => match number {
+            41..=43 => show_refused(number),
+            _ => show_frames(words, traced.frames, number),
+        },
+        Ending::Unsound { number, index } => show_unsound(number, index),
+    }
+}

@@ -1,0 +1,135 @@
+// One caller, and a whole trace: the arguments that both take, and the calls.
+use crate::arguments::Loaded;
+use crate::arguments::file_given;
+use crate::arguments::number_given;
+use crate::hexadecimal::Parsed;
+use crate::show_walks::show_step;
+use crate::show_walks::show_trace;
+use caller::registers::Registers;
+use caller::registers::Where;
+use trace::walk::trace;
+ghost use Prim.Native.Nat.{_≤_};
+ghost use lib.ListN.{length};
+
+// The longest stack window.
+const STACK: usize = 1_048_576;
+// Three words for each of 256 frames.
+const WORDS: usize = 768;
+
+pub enum Walk {
+    Caller,
+    Trace,
+}
+
+// Where the stack lies and what the registers hold, without a mark.
+enum Start {
+    From { registers: Registers, stack: u64 },
+    Wrong,
+}
+
+// Arguments 5 to 9.
+fn start_given() -> Start {
+    let Parsed::Number(stack) = number_given(5, b"STACK_ADDRESS") else {
+        return Start::Wrong;
+    };
+    let Parsed::Number(pc) = number_given(6, b"PC") else {
+        return Start::Wrong;
+    };
+    let Parsed::Number(sp) = number_given(7, b"SP") else {
+        return Start::Wrong;
+    };
+    let Parsed::Number(fp) = number_given(8, b"FP") else {
+        return Start::Wrong;
+    };
+    let Parsed::Number(lr) = number_given(9, b"LR") else {
+        return Start::Wrong;
+    };
+    Start::From {
+        registers: Registers {
+            pc: pc,
+            sp: sp,
+            fp: fp,
+            lr: lr,
+            first: 0,
+        },
+        stack: stack,
+    }
+}
+
+fn answer_caller(section: &[u8], stack: &[u8], lies: Where, registers: Registers) {
+    let Parsed::Number(first) = number_given(10, b"FIRST") else {
+        return;
+    };
+    let mut marked = registers;
+    marked.first = first;
+    show_step(marked.step(section, stack, lies));
+}
+
+fn words_room() -> [u64; WORDS] {
+    [0u64; WORDS]
+}
+
+// How many words the frames have, and never more than there are.
+fn written_in(buffer: &[u64], frames: u64) -> usize
+    ensures { λ r. ⌜ r ≤ length (now (buffer .entry)) ⌝ }
+{
+    if ((buffer.len() / 3) as u64) < frames {
+        return buffer.len();
+    }
+    3 * frames as usize
+}
+
+fn trace_into(
+    section: &[u8],
+    stack: &[u8],
+    lies: Where,
+    registers: Registers,
+    limit: u64,
+    buffer: &mut [u64],
+) {
+    let traced = trace(section, stack, lies, registers, limit, buffer);
+    let written = written_in(buffer, traced.frames);
+    show_trace(traced, &buffer[..written]);
+}
+
+fn answer_trace(section: &[u8], stack: &[u8], lies: Where, registers: Registers) {
+    let Parsed::Number(limit) = number_given(10, b"LIMIT") else {
+        return;
+    };
+    let mut buffer = words_room();
+    trace_into(section, stack, lies, registers, limit, &mut buffer);
+}
+
+fn answer_from(asked: Walk, section: &[u8], address: u64, stack: &[u8]) {
+    match start_given() {
+        Start::Wrong => {}
+        Start::From {
+            registers,
+            stack: lies,
+        } => {
+            let lies = Where {
+                section: address,
+                stack: lies,
+            };
+            match asked {
+                Walk::Caller => answer_caller(section, stack, lies, registers),
+                Walk::Trace => answer_trace(section, stack, lies, registers),
+            }
+        }
+    }
+}
+
+fn stack_room() -> [u8; STACK + 1] {
+    [0u8; STACK + 1]
+}
+
+pub fn answer_walk(asked: Walk, section: &[u8]) {
+    let Parsed::Number(address) = number_given(3, b"ADDRESS") else {
+        return;
+    };
+    let mut room = stack_room();
+    match file_given(4, b"sframe: STACK", STACK as u64, &mut room) {
+        Loaded::Failed => {}
+        Loaded::Bytes(n) => answer_from(asked, section, address, &room[..n]),
+    }
+}
