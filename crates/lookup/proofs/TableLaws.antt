@@ -49,3 +49,10 @@ field-held table i field-is position-is held = rw (field-is, position-is, table 
 pub start-held : {s : List ℕ} {layout : Layout} → HeaderOf s layout → (i : ℕ) {entry : Entry} {h : ℕ} → entry ≡ entryIn s i
     → Held (startOf (layout .relative) entry) h → Held (functionStart s i) h
 start-held header i is held = rw (header .layout-is, is) at held
+
+-- the size field of entry i
+pub size-field : {s : List ℕ} {layout : Layout} {order : Order} → TableOf s layout order → (i : ℕ) {field : ℕ}
+    → field ≡ fieldOf s (layout .table + 20 * i + 4) 4 order
+    → field ≡ entryIn s i .size
+unfolding entryIn entryOf
+size-field table i is = rw (table .order-is, table .header .layout-is) at is

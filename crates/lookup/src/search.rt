@@ -1,11 +1,9 @@
 // Which function covers a PC, and the number of entries compared: a section that is not sorted is scanned, a sorted one is
 // halved. Only a sound header is asked for.
-use crate::table::entry_in;
 use numbers::field::Order;
 use numbers::field::u32_at;
 use numbers::held::near_of;
 use numbers::held::rank_of;
-use section::entry::start_of;
 use section::header::Layout;
 use section::header::order_at;
 ghost use mathlib.Core.Bool.{_&&_};
@@ -18,7 +16,7 @@ ghost use Rattle.lookup.specs.Halving.{landing};
 ghost use Rattle.lookup.specs.Inner.{TableOf, HeaderOf};
 ghost use Rattle.lookup.specs.Search.{pastStart, firstWhere, positionAt, landedOn, searchOf};
 ghost use Rattle.numbers.specs.Held.{Held, Near, distance};
-ghost use Rattle.section.specs.Meaning.{functionIn, functionsOf, functionStart};
+ghost use Rattle.section.specs.Meaning.{entryIn, functionIn, functionsOf, functionStart};
 
 // How the least field, -2^31, is held: 2^31.
 const LEAST: u64 = 0x8000_0000;
@@ -40,6 +38,37 @@ pub struct Search {
 pub struct Landing {
     pub low: u64,
     pub compared: u64,
+}
+
+// ---- the fields of entry i: no other of its bytes is read
+
+// What the start field at a place counts from: that place under flag 0x4, else the section.
+fn position_at(relative: bool, at: usize) -> usize
+    ensures { λ r. ⌜ r ≡ positionAt relative at ⌝ }
+    ensures range { λ r. ⌜ r ≤ at ⌝ }
+{
+    if relative {
+        return at;
+    }
+    0
+}
+
+// How far the start of function i is above the least field, -2^31. Of its entry only the start field is read.
+fn rank_at(section: &[u8], layout: Layout, order: Order, i: u64) -> u64
+    requires { ⌜ TableOf (now section) layout order × (i < layout .functions) ⌝ }
+    ensures { λ r. ⌜ Held (functionStart (now (section .entry)) i) (r + 2 ^ 31) ⌝ }
+{
+    let at = (layout.table + 20 * i) as usize;
+    rank_of(u32_at(section, at, order)) + position_at(layout.relative, at) as u64
+}
+
+// The size of function i. Of its entry only this field is read.
+fn size_at(section: &[u8], layout: Layout, order: Order, i: u64) -> u32
+    requires { ⌜ TableOf (now section) layout order × (i < layout .functions) ⌝ }
+    ensures { λ r. ⌜ r ≡ entryIn (now (section .entry)) i .size ⌝ }
+{
+    let at = (layout.table + 20 * i) as usize;
+    u32_at(section, at + 4, order)
 }
 
 // ---- scanning: entry after entry is compared, none twice
@@ -70,8 +99,8 @@ fn covers_at(section: &[u8], layout: Layout, order: Order, i: u64, d: u64) -> bo
     requires { ⌜ TableOf (now section) layout order × (i < layout .functions) ⌝ }
     ensures { λ r. ⌜ ((z : ℤ) → Near z d → r ≡ covers z (functionIn (now (section .entry)) i)) ⌝ }
 {
-    let entry = entry_in(section, layout, order, i);
-    is_within(start_of(layout.relative, entry), entry.size, d)
+    let start = rank_at(section, layout, order, i) + LEAST;
+    is_within(start, size_at(section, layout, order, i), d)
 }
 
 // The first function from index `from` on that covers, and one past the last where none does.
@@ -106,27 +135,7 @@ fn scan(section: &[u8], layout: Layout, order: Order, d: u64) -> Cover
     Cover::Two(first, second)
 }
 
-// ---- halving: only the start fields of the entries compared are read
-
-// What the start field at a place counts from: that place under flag 0x4, else the section.
-fn position_at(relative: bool, at: usize) -> usize
-    ensures { λ r. ⌜ r ≡ positionAt relative at ⌝ }
-    ensures range { λ r. ⌜ r ≤ at ⌝ }
-{
-    if relative {
-        return at;
-    }
-    0
-}
-
-// How far the start of function i is above the least field, -2^31. Of its entry only the start field is read.
-fn rank_at(section: &[u8], layout: Layout, order: Order, i: u64) -> u64
-    requires { ⌜ TableOf (now section) layout order × (i < layout .functions) ⌝ }
-    ensures { λ r. ⌜ Held (functionStart (now (section .entry)) i) (r + 2 ^ 31) ⌝ }
-{
-    let at = (layout.table + 20 * i) as usize;
-    rank_of(u32_at(section, at, order)) + position_at(layout.relative, at) as u64
-}
+// ---- halving
 
 // The first number, counted as starts are here, that is past d.
 fn bound_of(d: u64) -> u64
