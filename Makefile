@@ -6,9 +6,10 @@ DESTDIR =
 # The one place of the version is the Rust package, since cargo takes it from there.
 VERSION = $(shell sed -n 's/^version = "\(.*\)"/\1/p' bindings/rust/Cargo.toml)
 
-# Generated sections of a soak, and the seed to repeat one.
+# Generated sections of a soak; the seed to repeat one, and the turn to begin at.
 N = 1000000
 SEED =
+FROM =
 
 help:
 	@echo "make run      prove and build the program sframe, and ask it about a recorded crash"
@@ -41,7 +42,7 @@ install: lib
 	    >"$(DESTDIR)$(PREFIX)/lib/pkgconfig/suntimpani.pc"
 
 soak: lib
-	cd tests && cargo run --quiet --release --offline --locked --features library --bin soak -- $(N) $(SEED)
+	cd tests && cargo run --quiet --release --offline --locked --features library --bin soak -- $(N) $(SEED) $(FROM)
 
 bench: lib
 	@said=$$(rt staticlib measure 2>&1) || { echo "$$said"; exit 1; }

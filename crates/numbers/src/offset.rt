@@ -43,12 +43,17 @@ pub fn offset_of(number: u32, code: usize) -> Offset
     }
 }
 
-// The signed number of 1, 2 or 4 bytes at `at`, by the code of its width.
+// The signed number of 1, 2 or 4 bytes at `at`, by the code of its width. The code is told apart once, so that each way is compiled
+// for its own width.
 pub fn offset_at(bytes: &[u8], at: usize, code: usize, order: Order) -> Offset
     requires { ⌜ (code ≤ 2) × (at + 2 ^ code ≤ length (now bytes)) ⌝ }
     ensures { λ r. ⌜ r ≡ offsetOf (2 ^ code) (fieldOf (now (bytes .entry)) at (2 ^ code) order) ⌝ }
 {
-    offset_of(field_at(bytes, at, code, order), code)
+    match code {
+        0 => offset_of(field_at(bytes, at, 0, order), 0),
+        1 => offset_of(field_at(bytes, at, 1, order), 1),
+        _ => offset_of(field_at(bytes, at, 2, order), 2),
+    }
 }
 
 // The one place where an offset becomes an unsigned number.
