@@ -1,7 +1,7 @@
 //! Prints a trace as a table: of a small section, or of files and numbers given as arguments.
 //!
 //!     cargo run --example trace
-//!     cargo run --example trace -- SECTION ADDRESS STACK STACK_ADDRESS PC SP FP
+//!     cargo run --example trace -- SECTION ADDRESS STACK STACK_ADDRESS PC SP FP LR
 //!
 //! SECTION and STACK are files with raw bytes; numbers are hexadecimal.
 
@@ -61,14 +61,14 @@ fn small() -> Crash {
 }
 
 fn from(given: &[String]) -> Result<Crash, String> {
-    let [section, address, stack, stack_address, pc, sp, fp] = given else {
-        return Err("the arguments are SECTION ADDRESS STACK STACK_ADDRESS PC SP FP".to_string());
+    let [section, address, stack, stack_address, pc, sp, fp, lr] = given else {
+        return Err("the arguments are SECTION ADDRESS STACK STACK_ADDRESS PC SP FP LR".to_string());
     };
     Ok(Crash {
         section: bytes_of(section)?,
         stack: bytes_of(stack)?,
         lies: Where { section_address: number(address)?, stack_address: number(stack_address)? },
-        registers: Registers { pc: number(pc)?, sp: number(sp)?, fp: number(fp)?, lr: 0, first: true },
+        registers: Registers { pc: number(pc)?, sp: number(sp)?, fp: number(fp)?, lr: number(lr)?, first: true },
     })
 }
 
