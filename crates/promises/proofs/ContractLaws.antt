@@ -34,7 +34,7 @@ contracts-kept =
     }
 
 -- some place, since a contract holds wherever what is lent lies
-somewhere : Lies
+pub somewhere : Lies
 somewhere = record { place = (0, 0); name = 0 }
 
 module _ (calls : Calls) (keeps : Keeps calls) where

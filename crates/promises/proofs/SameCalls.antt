@@ -1,13 +1,13 @@
--- Four calls are the same as four others where each answers as its fellow does, on every input.
+-- Four calls are the same as four others where each answers as its fellow does, on every input, whatever they reply with.
 -- Assumes nothing.
 use mathlib.Core.Path.{_≡_, fun-ext}
 use mathlib.Core.List.{List}
 use Prim.Native.Nat.{ℕ}
 use Rattle.caller.specs.declared.registers.Registers.{Registers}
 use Rattle.caller.specs.declared.registers.Where.{Where}
-use Rattle.promises.specs.Calls.{Calls}
+use Rattle.promises.specs.Calls.{CallsOf}
 
-pub same-calls : (calls other : Calls)
+pub same-calls : {Checks Looks Steps Traces : Type 0} (calls other : CallsOf Checks Looks Steps Traces)
     → ((s : List ℕ) → calls .check s ≡ other .check s)
     → ((s : List ℕ) (address pc : ℕ) → calls .lookup s address pc ≡ other .lookup s address pc)
     → ((s stack : List ℕ) (lies : Where) (registers : Registers) → calls .step s stack lies registers ≡ other .step s stack lies registers)

@@ -12,15 +12,19 @@ use Rattle.caller.specs.declared.registers.Step.{Step}
 use Rattle.caller.specs.declared.registers.Where.{Where}
 use Rattle.trace.specs.Trace.{Trace, traceOf}
 
-pub record Calls : Type 0 where
+-- by what each of the four replies with
+pub record CallsOf (Checks Looks Steps Traces : Type 0) : Type 0 where
   -- of a section
-  pub check : List ℕ → Verdict
+  pub check : List ℕ → Checks
   -- of a section, its address and a PC
-  pub lookup : List ℕ → ℕ → ℕ → Answer
+  pub lookup : List ℕ → ℕ → ℕ → Looks
   -- of a section, a stack window, where both lie, and registers
-  pub step : List ℕ → List ℕ → Where → Registers → Step
+  pub step : List ℕ → List ℕ → Where → Registers → Steps
   -- of these, a limit and what the buffer holds
-  pub trace : List ℕ → List ℕ → Where → Registers → ℕ → List ℕ → Trace
+  pub trace : List ℕ → List ℕ → Where → Registers → ℕ → List ℕ → Traces
+
+abbrev pub Calls : Type 0
+Calls = CallsOf Verdict Answer Step Trace
 
 -- what the contracts of our four functions name
 unfoldable pub ours : Calls

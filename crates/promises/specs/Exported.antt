@@ -7,12 +7,6 @@ use Prim.Native.Nat.{ℕ}
 use borrow.Fn.Kinds.{Dens, resT}
 use contract.Lifetimes.{Lfts}
 use denote.Ref.{now}
-use Rattle.accept.specs.Checks.{verdict}
-use Rattle.lookup.specs.Answers.{lookupOf}
-use Rattle.caller.specs.Caller.{stepIn}
-use Rattle.caller.specs.declared.registers.Registers.{Registers}
-use Rattle.caller.specs.declared.registers.Where.{Where}
-use Rattle.trace.specs.Trace.{traceOf}
 use Rattle.suntimpani.specs.Flat.{flatVerdict, flatAnswer, flatStep, Handed, walkedAs, flatTrace}
 use Rattle.suntimpani.specs.Read.{readVerdict, readAnswer, readStep, readTrace}
 use Rattle.suntimpani.specs.declared.flat.Checked.{Checked}
@@ -22,22 +16,19 @@ use Rattle.suntimpani.proofs.suntimpani_check.Kinds as check-kinds
 use Rattle.suntimpani.proofs.suntimpani_check.Reads as check-reads
 use Rattle.suntimpani.proofs.suntimpani_lookup.Kinds as lookup-kinds
 use Rattle.suntimpani.proofs.suntimpani_lookup.Reads as lookup-reads
-use Rattle.suntimpani.proofs.suntimpani_caller.Kinds as caller-kinds
-use Rattle.suntimpani.proofs.suntimpani_caller.Reads as caller-reads
+use Rattle.suntimpani.proofs.suntimpani_caller.Kinds as step-kinds
+use Rattle.suntimpani.proofs.suntimpani_caller.Reads as step-reads
 use Rattle.suntimpani.proofs.suntimpani_trace.Kinds as trace-kinds
 use Rattle.suntimpani.proofs.suntimpani_trace.Reads as trace-reads
-use Rattle.promises.specs.Calls.{Calls}
+use Rattle.promises.specs.Calls.{CallsOf, Calls, ours}
 use Rattle.promises.specs.Determined.{Allows}
 use Rattle.promises.specs.Promises.{Demands}
 
 -- ---- any four flat calls
 
-pub record FlatCalls : Type 0 where
-  pub check : List ℕ → Checked
-  pub lookup : List ℕ → ℕ → ℕ → Looked
-  pub caller : List ℕ → List ℕ → Where → Registers → Stepped
-  -- with the words left in the buffer
-  pub trace : List ℕ → List ℕ → Where → Registers → ℕ → List ℕ → Handed
+-- a trace with the words left in the buffer
+abbrev pub FlatCalls : Type 0
+FlatCalls = CallsOf Checked Looked Stepped Handed
 
 -- what the structs stand for
 unfoldable pub readCalls : FlatCalls → Calls
@@ -45,7 +36,7 @@ readCalls flat =
     record {
       check = λ s. readVerdict (flat .check s);
       lookup = λ s address pc. readAnswer (flat .lookup s address pc);
-      step = λ s stack lies registers. readStep (flat .caller s stack lies registers);
+      step = λ s stack lies registers. readStep (flat .step s stack lies registers);
       trace = λ s stack lies registers limit old. readTrace (flat .trace s stack lies registers limit old);
     }
 
@@ -55,19 +46,13 @@ flatCalls calls =
     record {
       check = λ s. flatVerdict (calls .check s);
       lookup = λ s address pc. flatAnswer (calls .lookup s address pc);
-      caller = λ s stack lies registers. flatStep (calls .step s stack lies registers);
+      step = λ s stack lies registers. flatStep (calls .step s stack lies registers);
       trace = λ s stack lies registers limit old. flatTrace (calls .trace s stack lies registers limit old);
     }
 
 -- what the contracts of our four exported functions name
 unfoldable pub exported : FlatCalls
-exported =
-    record {
-      check = λ s. flatVerdict (verdict s);
-      lookup = λ s address pc. flatAnswer (lookupOf s address pc);
-      caller = λ s stack lies registers. flatStep (stepIn s stack lies registers);
-      trace = λ s stack lies registers limit old. flatTrace (traceOf s stack lies registers limit old);
-    }
+exported = flatCalls ours
 
 -- ---- what a contract allows, and what a call answers to the same arguments
 
@@ -85,12 +70,12 @@ module _ (κs : Lfts 1) (a : Dens κs lookup-kinds.ps) where
   abbrev pub flatLookupReply : FlatCalls → resT lookup-kinds.r κs .Denot
   flatLookupReply flat = flat .lookup (now (a .0)) (a .1 .0) (a .1 .1 .0)
 
-module _ (κs : Lfts 2) (a : Dens κs caller-kinds.ps) where
-  abbrev pub FlatCallerAllows : resT caller-kinds.r κs .Denot → Type 0
-  FlatCallerAllows z = Allows caller-kinds.ps caller-kinds.r caller-reads.Post κs a z (tt, (tt, (tt, (tt, tt))))
+module _ (κs : Lfts 2) (a : Dens κs step-kinds.ps) where
+  abbrev pub FlatStepAllows : resT step-kinds.r κs .Denot → Type 0
+  FlatStepAllows z = Allows step-kinds.ps step-kinds.r step-reads.Post κs a z (tt, (tt, (tt, (tt, tt))))
 
-  abbrev pub flatCallerReply : FlatCalls → resT caller-kinds.r κs .Denot
-  flatCallerReply flat = flat .caller (now (a .0)) (now (a .1 .0)) (a .1 .1 .0) (a .1 .1 .1 .0)
+  abbrev pub flatStepReply : FlatCalls → resT step-kinds.r κs .Denot
+  flatStepReply flat = flat .step (now (a .0)) (now (a .1 .0)) (a .1 .1 .0) (a .1 .1 .1 .0)
 
 module _ (κs : Lfts 3) (a : Dens κs trace-kinds.ps) where
   abbrev pub FlatTraceAllows : resT trace-kinds.r κs .Denot → List ℕ → Type 0
@@ -106,7 +91,7 @@ module _ (κs : Lfts 3) (a : Dens κs trace-kinds.ps) where
 pub record FlatKeeps (flat : FlatCalls) : Type 0 where
   pub check : (κs : Lfts 1) (a : Dens κs check-kinds.ps) → FlatCheckAllows κs a (flatCheckReply κs a flat)
   pub lookup : (κs : Lfts 1) (a : Dens κs lookup-kinds.ps) → FlatLookupAllows κs a (flatLookupReply κs a flat)
-  pub caller : (κs : Lfts 2) (a : Dens κs caller-kinds.ps) → FlatCallerAllows κs a (flatCallerReply κs a flat)
+  pub step : (κs : Lfts 2) (a : Dens κs step-kinds.ps) → FlatStepAllows κs a (flatStepReply κs a flat)
   pub trace : (κs : Lfts 3) (a : Dens κs trace-kinds.ps)
       → FlatTraceAllows κs a (flatTraceReply κs a flat .answer) (flatTraceReply κs a flat .words)
 
@@ -116,8 +101,8 @@ pub record FlatGivenBy (flat : FlatCalls) : Type 0 where
       → FlatCheckAllows κs a z ↔ (z ≡ flatCheckReply κs a flat)
   pub lookup : (κs : Lfts 1) (a : Dens κs lookup-kinds.ps) (z : resT lookup-kinds.r κs .Denot)
       → FlatLookupAllows κs a z ↔ (z ≡ flatLookupReply κs a flat)
-  pub caller : (κs : Lfts 2) (a : Dens κs caller-kinds.ps) (z : resT caller-kinds.r κs .Denot)
-      → FlatCallerAllows κs a z ↔ (z ≡ flatCallerReply κs a flat)
+  pub step : (κs : Lfts 2) (a : Dens κs step-kinds.ps) (z : resT step-kinds.r κs .Denot)
+      → FlatStepAllows κs a z ↔ (z ≡ flatStepReply κs a flat)
   pub trace : (κs : Lfts 3) (a : Dens κs trace-kinds.ps) (z : resT trace-kinds.r κs .Denot) (words : List ℕ)
       → FlatTraceAllows κs a z words ↔ (walkedAs z words ≡ flatTraceReply κs a flat)
 
