@@ -10,6 +10,7 @@ pub mod Demand3Met
 pub mod ExportedKept
 pub mod GivenByTrace
 pub mod GivenExactly
+pub mod HexadecimalDetermined
 pub mod Kept
 pub mod LookupDetermined
 pub mod MeasureDetermined

@@ -1,2 +1,1 @@
-pub mod Hexadecimal
 pub mod Reading

@@ -2,10 +2,10 @@
 ghost use Prim.Native.Nat.{_≤_};
 ghost use lib.ListN.{length};
 ghost use Rattle.sframe.specs.Reading.{Within};
-use crate::hexadecimal::Parsed;
-use crate::hexadecimal::parse;
 use crate::say::complain;
 use crate::say::complain_number;
+use hexadecimal::Parsed;
+use hexadecimal::parse;
 
 // The length of "sframe: ", which every message begins with.
 const FRONT: usize = 8;

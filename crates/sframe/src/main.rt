@@ -2,7 +2,6 @@
 // Every answer is the library's; this program reads the arguments and the files, and prints.
 mod arguments;
 mod help;
-mod hexadecimal;
 mod refusals;
 mod say;
 mod show;
@@ -13,12 +12,12 @@ use crate::arguments::Loaded;
 use crate::arguments::file_given;
 use crate::arguments::number_given;
 use crate::help::show_help;
-use crate::hexadecimal::Parsed;
 use crate::say::complain;
 use crate::show::show_answer;
 use crate::show::show_verdict;
 use crate::walks::Walk;
 use crate::walks::answer_walk;
+use hexadecimal::Parsed;
 use lookup::look::lookup;
 
 // The longest section. With the longest stack window it fits the usual stack of 8 MiB.

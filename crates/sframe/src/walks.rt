@@ -2,11 +2,11 @@
 use crate::arguments::Loaded;
 use crate::arguments::file_given;
 use crate::arguments::number_given;
-use crate::hexadecimal::Parsed;
 use crate::show_walks::show_step;
 use crate::show_walks::show_trace;
 use caller::registers::Registers;
 use caller::registers::Where;
+use hexadecimal::Parsed;
 use trace::walk::trace;
 ghost use Prim.Native.Nat.{_≤_};
 ghost use lib.ListN.{length};

@@ -3,8 +3,8 @@
 use mathlib.Core.Path.{_≡_, refl}
 use mathlib.Core.List.{List, [], _∷_, _++_}
 use Prim.Native.Nat.{ℕ, _-_, _^_}
-use Rattle.sframe.specs.Hexadecimal.{digitOf, digitsFrom, digitsOf, marked, hexOf}
-use Rattle.sframe.specs.declared.hexadecimal.Parsed.the-variants.{Number, Wrong}
+use Rattle.hexadecimal.specs.Hexadecimal.{digitOf, digitsFrom, digitsOf, marked, hexOf}
+use Rattle.hexadecimal.specs.declared.Parsed.the-variants.{Number, Wrong}
 
 -- eight times the letter f
 eight : List ℕ

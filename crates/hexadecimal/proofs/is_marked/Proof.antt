@@ -1,12 +1,12 @@
--- `hexadecimal::is_marked` looks at the first two bytes, where there are two.
+-- `is_marked` looks at the first two bytes, where there are two.
 -- Assumes nothing.
 use borrow.Author.Needs.{needs}
 use borrow.Author.Tests.{eq-eqb, ne-eqb}
 use mathlib.Core.Path.{sym}
-use Rattle.sframe.specs.Hexadecimal.{marked}
-use Rattle.sframe.proofs.DigitLaws.{marked-short}
-use Rattle.sframe.proofs.hexadecimal.is_marked.Statement.{statement}
-use Rattle.sframe.proofs.hexadecimal.is_marked.Tie as tie
+use Rattle.hexadecimal.specs.Hexadecimal.{marked}
+use Rattle.hexadecimal.proofs.DigitLaws.{marked-short}
+use Rattle.hexadecimal.proofs.is_marked.Statement.{statement}
+use Rattle.hexadecimal.proofs.is_marked.Tie as tie
 
 returns : tie.Need-returns
 returns c = sym (marked-short _ (c .if1 .taken))

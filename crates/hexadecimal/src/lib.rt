@@ -1,6 +1,6 @@
 // Numbers as the command line gives them: hexadecimal, 1 to 16 digits, with or without a leading 0x.
 ghost use mathlib.Core.Path.{_≡_};
-ghost use Rattle.sframe.specs.Hexadecimal.{digitOf, digitsOf, marked, hexOf};
+ghost use Rattle.hexadecimal.specs.Hexadecimal.{digitOf, digitsOf, marked, hexOf};
 
 pub enum Parsed {
     Number(u64),

@@ -11,8 +11,8 @@ use lib.Dec.{eqb, leb, ltb}
 use lib.ListN.{length, take, drop, getD, length-drop, drop-of-length-le}
 use lib.Seq.{drop-cons, take-all}
 use borrow.Author.Tests.{le-leb, lt-leb, lt-ltb, le-ltb}
-use Rattle.sframe.specs.Hexadecimal.{isBetween, digitOf, digitsFrom, digitsOf, marked, hexOf}
-use Rattle.sframe.specs.declared.hexadecimal.Parsed.the-variants.{Number, Wrong}
+use Rattle.hexadecimal.specs.Hexadecimal.{isBetween, digitOf, digitsFrom, digitsOf, marked, hexOf}
+use Rattle.hexadecimal.specs.declared.Parsed.the-variants.{Number, Wrong}
 
 -- ---- between two bounds
 

@@ -1,14 +1,14 @@
--- `hexadecimal::digits_of` reads one digit a turn: what the rest makes behind the digits read is what all of them make.
+-- `digits_of` reads one digit a turn: what the rest makes behind the digits read is what all of them make.
 -- Assumes nothing.
 use borrow.Author.Needs.{needs}
 use mathlib.Core.Path.{_≡_, refl, sym, _∙_}
 use Prim.Native.Nat.{_≤_, _<_, _-_, _^_}
 use native.Mathlib.Omega.{arith}
 use lib.ListN.{length, drop}
-use Rattle.sframe.specs.Hexadecimal.{digitsFrom}
-use Rattle.sframe.proofs.DigitLaws.{too-few, too-many, enough, digits-more, digits-wrong, digits-done, room-for-one, one-more}
-use Rattle.sframe.proofs.hexadecimal.digits_of.Statement.{statement}
-use Rattle.sframe.proofs.hexadecimal.digits_of.Tie as tie
+use Rattle.hexadecimal.specs.Hexadecimal.{digitsFrom}
+use Rattle.hexadecimal.proofs.DigitLaws.{too-few, too-many, enough, digits-more, digits-wrong, digits-done, room-for-one, one-more}
+use Rattle.hexadecimal.proofs.digits_of.Statement.{statement}
+use Rattle.hexadecimal.proofs.digits_of.Tie as tie
 
 abbrev Inv-loop : tie.InvT-loop
 Inv-loop text n₀ i₀ n i =

@@ -1,12 +1,12 @@
--- `hexadecimal::parse` takes a leading 0x off, which only text of two bytes or more has.
+-- `parse` takes a leading 0x off, which only text of two bytes or more has.
 -- Assumes nothing.
 use borrow.Author.Needs.{needs}
 use mathlib.Core.Path.{sym, _∙_}
 use lib.ListN.{length}
 use Prim.Native.Nat.{_≤_}
-use Rattle.sframe.proofs.DigitLaws.{marked-long, hex-marked, hex-plain}
-use Rattle.sframe.proofs.hexadecimal.parse.Statement.{statement}
-use Rattle.sframe.proofs.hexadecimal.parse.Tie as tie
+use Rattle.hexadecimal.proofs.DigitLaws.{marked-long, hex-marked, hex-plain}
+use Rattle.hexadecimal.proofs.parse.Statement.{statement}
+use Rattle.hexadecimal.proofs.parse.Tie as tie
 
 -- two bytes come off only where there are two
 long : (c : tie.Then1) → 2 ≤ length (c .before .before .before .args .text .now)

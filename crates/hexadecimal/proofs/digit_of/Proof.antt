@@ -1,10 +1,10 @@
--- `hexadecimal::digit_of` goes by the three rows of digits and the four gaps around them.
+-- `digit_of` goes by the three rows of digits and the four gaps around them.
 -- Assumes nothing.
 use borrow.Author.Needs.{needs}
 use mathlib.Core.Path.{sym}
-use Rattle.sframe.proofs.DigitLaws.{decimal, capital, small, low-gap, capital-gap, small-gap, high-gap}
-use Rattle.sframe.proofs.hexadecimal.digit_of.Statement.{statement}
-use Rattle.sframe.proofs.hexadecimal.digit_of.Tie as tie
+use Rattle.hexadecimal.proofs.DigitLaws.{decimal, capital, small, low-gap, capital-gap, small-gap, high-gap}
+use Rattle.hexadecimal.proofs.digit_of.Statement.{statement}
+use Rattle.hexadecimal.proofs.digit_of.Tie as tie
 
 returns : tie.Need-returns
 returns c = sym (decimal _ (search needs) (search needs))

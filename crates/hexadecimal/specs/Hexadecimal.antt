@@ -5,8 +5,8 @@ use mathlib.Core.Bool.{Bool, true, false, _&&_}
 use mathlib.Core.List.{List, [], _∷_}
 use lib.Dec.{eqb, leb, ltb}
 use lib.ListN.{length, drop, getD}
-use Rattle.sframe.specs.declared.hexadecimal.Parsed.{Parsed}
-use Rattle.sframe.specs.declared.hexadecimal.Parsed.the-variants.{Number, Wrong}
+use Rattle.hexadecimal.specs.declared.Parsed.{Parsed}
+use Rattle.hexadecimal.specs.declared.Parsed.the-variants.{Number, Wrong}
 
 -- whether n lies from low to high
 abbrev pub isBetween : ℕ → ℕ → ℕ → Bool
