@@ -1,5 +1,5 @@
 //! How deep a run goes into its stack: it runs on memory of its own, painted before, and what is no longer painted was
-//! written to. The stack's end is followed by a forbidden page.
+//! written to. The stack's end is followed by a forbidden page. For x86-64, as the library's archive is.
 #![allow(unsafe_code)]
 
 use crate::guarded::{Guarded, Side};
@@ -35,7 +35,6 @@ extern "C" fn enter(run: &mut &mut dyn FnMut()) {
 }
 
 // The stack pointer is changed for one call alone, which nothing unwinds through: a panic in it ends the program.
-#[cfg(target_arch = "x86_64")]
 fn run_on(stack: &mut [u64], mut run: &mut dyn FnMut()) {
     let top = stack.as_mut_ptr_range().end;
     assert!((top as usize).is_multiple_of(16), "a stack begins at a multiple of 16");
@@ -50,25 +49,6 @@ fn run_on(stack: &mut [u64], mut run: &mut dyn FnMut()) {
             enter = sym enter,
             in("rdi") &mut run,
             out("r12") _,
-            clobber_abi("C"),
-        );
-    }
-}
-
-#[cfg(target_arch = "aarch64")]
-fn run_on(stack: &mut [u64], mut run: &mut dyn FnMut()) {
-    let top = stack.as_mut_ptr_range().end;
-    // SAFETY: the stack is writable memory lent for the call, and the call keeps x20, which has the old stack pointer.
-    unsafe {
-        std::arch::asm!(
-            "mov x20, sp",
-            "mov sp, {top}",
-            "bl {enter}",
-            "mov sp, x20",
-            top = in(reg) top,
-            enter = sym enter,
-            in("x0") &mut run,
-            out("x20") _,
             clobber_abi("C"),
         );
     }
