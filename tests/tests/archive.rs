@@ -1,6 +1,6 @@
-//! "Nothing allocated, no state": read off the static library itself, by `nm` and `size` of the system's binutils. It
-//! has the four functions of the header and no other name to be linked to; it needs no function of anyone, so it can
-//! call no allocator; and it has no byte that could be written to.
+//! That nothing is allocated and that there is no state, read off the static library itself, by `nm` and `size` of the
+//! system's binutils. It has the four functions of the header and no other name to be linked to; it needs no function of
+//! anyone, so it can call no allocator; and it has no byte that could be written to.
 #![cfg(feature = "library")]
 
 use std::env;

@@ -111,7 +111,7 @@ pub record FlatGivenBy (flat : FlatCalls) : Type 0 where
 pub record FlatDemands (flat : FlatCalls) : Type 0 where
   -- the three demands, of the answers that the structs stand for
   pub demands : Demands (readCalls flat)
-  -- nothing else stands in a struct: "Fields without meaning in a case are 0"
+  -- nothing else stands in a struct: a field without meaning in a case is 0
   pub flattened : flat ≡ flatCalls (readCalls flat)
 
 abbrev pub FlatPromised : Type 0
