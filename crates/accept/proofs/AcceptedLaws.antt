@@ -14,14 +14,14 @@ use borrow.Author.Tests.{le-leb}
 use Rattle.numbers.proofs.DiffLaws.{Diff, diff-pos, diff-add, diff-le}
 use Rattle.section.specs.Entry.{typeOf}
 use Rattle.section.specs.Header.{orderOf, marksOf, sizesOf, layoutFrom, layoutOf}
-use Rattle.section.specs.Meaning.{areaOf, shapeOf, entryIn, rowAt, functionIn, functionStart, functionEnd}
-use Rattle.section.specs.Row.{Readable}
+use Rattle.section.specs.Meaning.{areaOf, shapeOf, entryIn, rowPlaceAt, functionIn, functionStart, functionEnd}
 use Rattle.section.specs.Same.{AllowedRows, SameFunction}
 use Rattle.section.specs.Shape.{knownAbi}
+use Rattle.section.specs.inner.Reading.{Readable}
 use Rattle.section.proofs.SameLaws.{function-same}
-use Rattle.accept.specs.Checks.{entryFault, verdict}
 use Rattle.accept.specs.Rules.{functionCount, rowCount, rowInfoAt, rowStartAt, HeaderObeys, Obeys}
-use Rattle.accept.specs.Reliable.{Reliable}
+use Rattle.accept.specs.computed.Checks.{entryFault, verdict}
+use Rattle.accept.specs.inner.Reliable.{Reliable}
 use Rattle.accept.specs.declared.verdict.Fault.the-variants.{Sound}
 use Rattle.accept.specs.declared.verdict.Verdict.the-variants.{Accepted}
 use Rattle.accept.proofs.Exactly.{accepted-exactly-when, entry-exactly-when}
@@ -57,7 +57,7 @@ fault-free {s} obeys i lt =
     entry-exactly-when s i .1 (entry .rule9, entry .rule10, entry .first, entry .rows)
 
 pub row-readable : {s : List ℕ} → Obeys s → (i k : ℕ) → i < functionCount s → k < rowCount s i
-    → Readable (areaOf s) (typeOf (entryIn s i .info)) (rowAt s i k)
+    → Readable (areaOf s) (typeOf (entryIn s i .info)) (rowPlaceAt s i k)
 unfolding rowCount
 row-readable obeys i k lt inside = entry-readable _ _ _ (fault-free obeys i lt) k inside
 
@@ -109,14 +109,8 @@ accepted-laws s e =
     let obeys = accepted-exactly-when s .0 e in
     record {
       header = obeys .header;
-      abi = known-abi (obeys .header);
       few = few-functions (obeys .header);
-      table = entry-inside (obeys .header);
-      area = area-inside (obeys .header);
-      bytes = area-length (obeys .header);
       entries = fault-free obeys;
       rows = row-readable obeys;
-      rising = rows-rising obeys;
       apart = sorted-apart obeys;
-      sum = obeys .rule15;
     }

@@ -9,10 +9,10 @@ use Prim.Native.Nat.{ℕ, _-_, _≤_, _<_}
 use native.Mathlib.Omega.{arith}
 use lib.ListN.{getD}
 use Rattle.section.specs.Entry.{typeOf}
-use Rattle.section.specs.Meaning.{areaOf, shapeOf, entryIn, rowAt}
-use Rattle.accept.specs.Checks.{headerTests, headerFault, entryTests, rowTests, rowFault, lowOf, rowFaultIn, rowsFault, entryFault, turnFault, sumFault, entriesVerdict, verdict}
+use Rattle.section.specs.Meaning.{areaOf, shapeOf, entryIn, rowPlaceAt}
 use Rattle.accept.specs.Given.{Rule, short, long, magic, version, flags, abi, fixed, sizes, entryInfo, repeatSize, rowsInside, rowInfo, rowsRising, sorted, rowSum, numberOfRule, Reached, RowsReached, RowReached, Given}
 use Rattle.accept.specs.Rules.{functionCount, rowCount, rowInfoAt, rowLengthAt, rowStartAt, Rule9, Rule10, Rule11First, Rule14, Rule15, HeaderObeys, RowObeys, EntryObeys, Obeys}
+use Rattle.accept.specs.computed.Checks.{headerTests, headerFault, entryTests, rowTests, rowFault, lowOf, rowFaultIn, rowsFault, entryFault, turnFault, sumFault, entriesVerdict, verdict}
 use Rattle.accept.specs.declared.verdict.Fault.the-variants.{Sound, Breaks}
 use Rattle.accept.specs.declared.verdict.Verdict.the-variants.{Accepted, Refused}
 use Rattle.accept.proofs.Decides.{not-below, by-test, one-test}
@@ -43,7 +43,7 @@ header-exactly-when s =
 
 -- a row's rules, over the section and over its row area
 row-rules : (s : List ℕ) (i k : ℕ)
-    → RowSound (areaOf s) (shapeOf s) (typeOf (entryIn s i .info)) (rowAt s i k)
+    → RowSound (areaOf s) (shapeOf s) (typeOf (entryIn s i .info)) (rowPlaceAt s i k)
     (lowOf (areaOf s) (shapeOf s .order) (typeOf (entryIn s i .info)) (entryIn s i .first) k)
     ↔ RowObeys s i k
 unfolding rowInfoAt rowLengthAt rowStartAt

@@ -10,8 +10,8 @@ use lib.ListN.{take, set}
 use Rattle.section.specs.Header.{layoutOf}
 use Rattle.section.specs.Meaning.{Function, plain, areaOf, shapeOf, entryIn, functionsOf}
 use Rattle.section.specs.SectionS.{sectionS, overlappingS, unsortedS, atEntry, withFrame}
-use Rattle.accept.specs.Checks.{firstBad, andThen, givenAt, thenTry, firstOf, headerFault, entryFault, outOfOrder, turnFault, sumFault, entriesVerdict, verdict}
-use Rattle.accept.specs.Opened.{acceptOpened}
+use Rattle.accept.specs.computed.Checks.{firstBad, andThen, givenAt, thenTry, firstOf, headerFault, entryFault, outOfOrder, turnFault, sumFault, entriesVerdict, verdict}
+use Rattle.accept.specs.inner.Opened.{acceptOpened}
 use Rattle.accept.specs.declared.verdict.Fault.{Fault}
 use Rattle.accept.specs.declared.verdict.Verdict.{Verdict}
 use Rattle.accept.specs.declared.verdict.Verdict.the-variants.{Accepted, Refused}

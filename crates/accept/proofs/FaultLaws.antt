@@ -7,7 +7,7 @@ use mathlib.Core.Logic.{_⊎_, inl, inr, _↔_, Iff·trans, ⊎-elim}
 use Prim.Native.Nat.{ℕ, zero, suc, _+_, _-_, _≤_, _<_}
 use native.Mathlib.Nat.{eq-or-lt-of-le}
 use native.Mathlib.Omega.{arith}
-use Rattle.accept.specs.Checks.{firstBad, andThen, givenAt, thenTry, firstOf, faultOf}
+use Rattle.accept.specs.computed.Checks.{firstBad, andThen, givenAt, thenTry, firstOf, faultOf}
 use Rattle.accept.specs.declared.verdict.Fault.{Fault}
 use Rattle.accept.specs.declared.verdict.Fault.the-variants.{Sound, Breaks}
 use Rattle.accept.specs.declared.verdict.Verdict.{Verdict}

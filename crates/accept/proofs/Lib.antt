@@ -1,4 +1,5 @@
 pub mod AcceptedLaws
+pub mod CauseLaws
 pub mod Decides
 pub mod Exactly
 mod Examples

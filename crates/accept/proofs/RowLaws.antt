@@ -12,10 +12,11 @@ use lib.ListN.{length}
 use borrow.Author.Tests.{eqb-true, eqb-false}
 use Rattle.section.specs.Entry.{typeOf, repeats}
 use Rattle.section.specs.Header.{bitOf}
-use Rattle.section.specs.Row.{infoOf, countOf, sizeOf, rowLength, rowPlace, rowStart, Readable}
+use Rattle.section.specs.Row.{infoOf, countOf, offsetSizeOf, rowLength, rowPlace, rowStart}
+use Rattle.section.specs.inner.Reading.{Readable}
 use Rattle.section.specs.declared.entry.Entry.{Entry}
 use Rattle.section.specs.declared.shape.Shape.{Shape}
-use Rattle.accept.specs.Checks.{wrongEntryInfo, entryTests, wrongRowInfo, rowTests, rowFault, lowOf, rowFaultIn, rowsFault, entryFault}
+use Rattle.accept.specs.computed.Checks.{wrongEntryInfo, entryTests, wrongRowInfo, rowTests, rowFault, lowOf, rowFaultIn, rowsFault, entryFault}
 use Rattle.accept.specs.declared.verdict.Fault.the-variants.{Sound}
 use Rattle.accept.proofs.Decides.{Decides, not-below, positive, unset, none-of, where-set}
 use Rattle.accept.proofs.FaultLaws.{end, line, table-sound, and-sound, fault-sound, each-sound}
@@ -23,23 +24,23 @@ use Rattle.accept.proofs.InOrder.{in-order}
 
 -- ---- one row
 
-size-decides : (info : ℕ) → Decides (eqb (sizeOf info) 3) (sizeOf info ≤ 2)
-unfolding sizeOf
+size-decides : (info : ℕ) → Decides (eqb (offsetSizeOf info) 3) (offsetSizeOf info ≤ 2)
+unfolding offsetSizeOf
 size-decides info =
     record {
-      holds = λ e. let far : ¬ (sizeOf info ≡ 3) = eqb-false (sizeOf info) 3 e in omega arith;
-      broken = λ e le. let same : sizeOf info ≡ 3 = eqb-true (sizeOf info) 3 e in omega arith;
+      holds = λ e. let far : ¬ (offsetSizeOf info ≡ 3) = eqb-false (offsetSizeOf info) 3 e in omega arith;
+      broken = λ e le. let same : offsetSizeOf info ≡ 3 = eqb-true (offsetSizeOf info) 3 e in omega arith;
     }
 
 -- 12
-pub row-info-decides : (most info : ℕ) → Decides (wrongRowInfo most info) ((sizeOf info ≤ 2) × (1 ≤ countOf info) × (countOf info ≤ most))
+pub row-info-decides : (most info : ℕ) → Decides (wrongRowInfo most info) ((offsetSizeOf info ≤ 2) × (1 ≤ countOf info) × (countOf info ≤ most))
 unfolding wrongRowInfo
 row-info-decides most info = none-of (size-decides info) (positive (countOf info)) (not-below most (countOf info))
 
 -- the row at `at`, of those that may start at `low` or above it, is sound
 pub record RowSound (area : List ℕ) (shape : Shape) (code at low : ℕ) : Type 0 where
   pub fixed : at + 2 ^ code + 1 ≤ length area
-  pub info : (sizeOf (infoOf area code at) ≤ 2) × (1 ≤ countOf (infoOf area code at)) × (countOf (infoOf area code at) ≤ shape .most)
+  pub info : (offsetSizeOf (infoOf area code at) ≤ 2) × (1 ≤ countOf (infoOf area code at)) × (countOf (infoOf area code at) ≤ shape .most)
   pub whole : at + rowLength area code at ≤ length area
   pub above : low ≤ rowStart area (shape .order) code at
 

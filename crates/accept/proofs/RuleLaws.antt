@@ -15,10 +15,10 @@ use Rattle.numbers.specs.declared.field.Order.the-variants.{Little, Big}
 use Rattle.numbers.specs.declared.offset.Offset.{Offset}
 use Rattle.section.specs.Entry.{typeOf, repeats}
 use Rattle.section.specs.Header.{magicIn, orderOf, marksOf, sizesOf, layoutFrom, layoutOf}
-use Rattle.section.specs.Meaning.{areaOf, shapeOf, entryIn, listed, rowAt}
+use Rattle.section.specs.Meaning.{areaOf, shapeOf, entryIn, listed, rowPlaceAt}
 use Rattle.section.specs.Shape.{knownAbi}
-use Rattle.accept.specs.Checks.{sameOrder, wrongAbi, sameOffset, wrongFixed, wrongSizes, headerTests, wrongEntryInfo, entryTests, wrongRowInfo, rowTests, lowOf, outOfOrder, rowsBelow}
 use Rattle.accept.specs.Rules.{functionCount, rowCount, rowInfoAt, rowLengthAt, rowStartAt, Rule1, Rule2, Rule3, Rule4, Rule5, Rule6, Rule7, Rule8, Rule9, Rule10, Rule11First, Rule11Fixed, Rule11Offsets, Rule12, Rule13, Rule14, Rule15}
+use Rattle.accept.specs.computed.Checks.{sameOrder, wrongAbi, sameOffset, wrongFixed, wrongSizes, headerTests, wrongEntryInfo, entryTests, wrongRowInfo, rowTests, lowOf, outOfOrder, rowsBelow}
 use Rattle.accept.proofs.Decides.{Decides, Shows, always, never, shown, denied, not-below, positive, at-most, equal, same-rule, unless, neither, none-of, where-set, both, either}
 use Rattle.accept.proofs.FaultLaws.{Table, end, line}
 use Rattle.accept.proofs.RowLaws.{row-info-decides, entry-info-decides}
@@ -93,13 +93,13 @@ rule11-first s i = not-below _ _
 
 -- ---- row k of entry i
 
-pub rule11-fixed : (s : List ℕ) (i k : ℕ) → Decides (ltb (length (areaOf s)) (rowAt s i k + 2 ^ typeOf (entryIn s i .info) + 1)) (Rule11Fixed s i k)
+pub rule11-fixed : (s : List ℕ) (i k : ℕ) → Decides (ltb (length (areaOf s)) (rowPlaceAt s i k + 2 ^ typeOf (entryIn s i .info) + 1)) (Rule11Fixed s i k)
 rule11-fixed s i k = not-below _ _
 
 pub rule12 : (s : List ℕ) (i k : ℕ) → Decides (wrongRowInfo (shapeOf s .most) (rowInfoAt s i k)) (Rule12 s i k)
 rule12 s i k = row-info-decides (shapeOf s .most) (rowInfoAt s i k)
 
-pub rule11-offsets : (s : List ℕ) (i k : ℕ) → Decides (ltb (length (areaOf s)) (rowAt s i k + rowLengthAt s i k)) (Rule11Offsets s i k)
+pub rule11-offsets : (s : List ℕ) (i k : ℕ) → Decides (ltb (length (areaOf s)) (rowPlaceAt s i k + rowLengthAt s i k)) (Rule11Offsets s i k)
 rule11-offsets s i k = not-below _ _
 
 -- the least start that row k may have, against the start of the row before it
@@ -161,7 +161,7 @@ entry-table s i = line (rule9 s i) (line (rule10 s i) (line (rule11-first s i) e
 -- the tests of row k of entry i
 abbrev pub rowTestsAt : List ℕ → ℕ → ℕ → List (Bool × ℕ)
 rowTestsAt s i k =
-    rowTests (areaOf s) (shapeOf s) (typeOf (entryIn s i .info)) (rowAt s i k)
+    rowTests (areaOf s) (shapeOf s) (typeOf (entryIn s i .info)) (rowPlaceAt s i k)
     (lowOf (areaOf s) (shapeOf s .order) (typeOf (entryIn s i .info)) (entryIn s i .first) k)
 
 abbrev pub rowRules : List ℕ → ℕ → ℕ → List (Type 0)

@@ -10,7 +10,7 @@ use Rattle.section.specs.Entry.{typeOf}
 use Rattle.section.specs.Row.{rowStart}
 use Rattle.section.specs.declared.entry.Entry.{Entry}
 use Rattle.section.specs.declared.shape.Shape.{Shape}
-use Rattle.accept.specs.Checks.{firstBad, andThen, entryTests, rowTests, rowFault, rowsFault, entryFault}
+use Rattle.accept.specs.computed.Checks.{firstBad, andThen, entryTests, rowTests, rowFault, rowsFault, entryFault}
 use Rattle.accept.specs.declared.verdict.Fault.{Fault}
 use Rattle.accept.specs.declared.verdict.Fault.the-variants.{Sound, Breaks}
 

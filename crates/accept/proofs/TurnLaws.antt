@@ -12,11 +12,11 @@ use lib.Dec.{ltb}
 use lib.IntN.{ℤ, pos, _+ℤ_}
 use lib.Signed.{ltZ}
 use borrow.Author.Tests.{ltb-true, ltb-false, le-ltb}
-use Rattle.numbers.specs.Held.{Held}
+use Rattle.numbers.specs.inner.Held.{Held}
 use Rattle.numbers.proofs.HeldLaws.{overlaps, follows}
 use Rattle.section.specs.Header.{layoutOf}
 use Rattle.section.specs.Meaning.{areaOf, shapeOf, entryIn, functionStart}
-use Rattle.accept.specs.Checks.{firstBad, andThen, givenAt, thenTry, firstOf, entryFault, outOfOrder, turnFault, rowsBelow, sumFault, entriesVerdict}
+use Rattle.accept.specs.computed.Checks.{firstBad, andThen, givenAt, thenTry, firstOf, entryFault, outOfOrder, turnFault, rowsBelow, sumFault, entriesVerdict}
 use Rattle.accept.specs.declared.verdict.Fault.the-variants.{Sound, Breaks}
 use Rattle.accept.specs.declared.verdict.Verdict.the-variants.{Refused}
 use Rattle.accept.proofs.FaultLaws.{left-goes-on, left-stops, left-ends}

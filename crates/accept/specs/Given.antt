@@ -1,9 +1,11 @@
--- When each number is given: its rule is broken there, and no test that document 01 tries earlier is.
+-- The numbers of a check, 1 to 15, and when each is given: its rule is broken there, and no test that document 01 tries earlier is.
 use mathlib.Core.Path.{_≡_}
 use mathlib.Core.Logic.{_⊎_}
-use mathlib.Core.List.{List}
+use mathlib.Core.List.{List, [], _∷_}
 use Prim.Native.Nat.{ℕ, _<_}
 use Rattle.accept.specs.Rules.{functionCount, rowCount, Rule1, Rule2, Rule3, Rule4, Rule5, Rule6, Rule7, Rule8, Rule9, Rule10, Rule11First, Rule11Fixed, Rule11Offsets, Rule12, Rule13, Rule14, Rule15, HeaderObeys, RowObeys, EntryObeys}
+use Rattle.accept.specs.declared.verdict.Verdict.{Verdict}
+use Rattle.accept.specs.declared.verdict.Verdict.the-variants.{Accepted, Refused}
 
 -- the rules by name, in document 01's order
 pub data Rule : Type 0 where
@@ -40,6 +42,17 @@ numberOfRule rowInfo = 12
 numberOfRule rowsRising = 13
 numberOfRule sorted = 14
 numberOfRule rowSum = 15
+
+-- document 01's number of a verdict, 0 where accepted, and what it carries: "its number and the entry's index"
+unfoldable pub verdictNumber : Verdict → ℕ
+verdictNumber Accepted = 0
+verdictNumber (Refused number index) = number
+
+unfoldable pub verdictIndexes : Verdict → List ℕ
+verdictIndexes Accepted = []
+verdictIndexes (Refused number index) = index ∷ []
+
+-- ---- the order of trying
 
 -- entry i is tried: the header and every earlier entry obey
 pub record Reached (s : List ℕ) (i : ℕ) : Type 0 where
@@ -82,3 +95,7 @@ Given s rowInfo i = (k : ℕ) × RowReached s i k × Rule11Fixed s i k × ¬ Rul
 Given s rowsRising i = (k : ℕ) × RowReached s i k × Rule11Fixed s i k × Rule12 s i k × Rule11Offsets s i k × ¬ Rule13 s i k
 Given s sorted i = RowsReached s i × ((k : ℕ) → k < rowCount s i → RowObeys s i k) × ¬ Rule14 s i
 Given s rowSum i = (i ≡ 0) × HeaderObeys s × ((j : ℕ) → j < functionCount s → EntryObeys s j) × ¬ Rule15 s
+
+-- the rule is the first broken one, in the entry with some index
+abbrev pub BrokenFirst : List ℕ → Rule → Type 0
+BrokenFirst s rule = (index : ℕ) × Given s rule index

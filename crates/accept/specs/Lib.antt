@@ -1,6 +1,4 @@
-pub mod Checks
 pub mod Given
-pub mod Inner
-pub mod Opened
-pub mod Reliable
 pub mod Rules
+pub mod computed
+pub mod inner

@@ -10,7 +10,7 @@ ghost use mathlib.Core.Bool.{_&&_};
 ghost use mathlib.Core.Path.{_≡_};
 ghost use lib.Dec.{eqb};
 ghost use Rattle.section.specs.Entry.{repeats};
-ghost use Rattle.accept.specs.Checks.{wrongEntryInfo, entryFault};
+ghost use Rattle.accept.specs.computed.Checks.{wrongEntryInfo, entryFault};
 
 // Whether an info byte has bit 6 or 7 set, or a row type above 2.
 fn wrong_entry_info(info: u8) -> bool

@@ -16,7 +16,7 @@ ghost use Prim.Native.Nat.{_≤_};
 ghost use lib.ListN.{length, drop};
 ghost use Rattle.numbers.specs.declared.field.Order.the-variants.{Little, Big};
 ghost use Rattle.section.specs.Header.{magicIn};
-ghost use Rattle.accept.specs.Checks.{firstBad, sameOrder, sameOffset, wrongAbi, wrongFixed, wrongSizes, headerTests, headerFault};
+ghost use Rattle.accept.specs.computed.Checks.{firstBad, sameOrder, sameOffset, wrongAbi, wrongFixed, wrongSizes, headerTests, headerFault};
 
 // The most bytes that a section may have.
 const MOST: usize = 16_777_216;
@@ -98,10 +98,10 @@ fn wrong_sizes(all: u64, auxiliary: u8, sizes: Sizes) -> bool
     ensures { λ r. ⌜ r ≡ wrongSizes all auxiliary sizes ⌝ }
 {
     let entries = 20 * sizes.functions as u64;
-    if sizes.table != 0 {
+    if sizes.tableoffset != 0 {
         return true;
     }
-    if sizes.area as u64 != entries {
+    if sizes.areaoffset as u64 != entries {
         return true;
     }
     if 28 + auxiliary as u64 + entries + sizes.bytes as u64 != all {

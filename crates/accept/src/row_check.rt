@@ -4,19 +4,19 @@ use numbers::field::field_at;
 use numbers::field::width_of;
 use section::row::count_of;
 use section::row::info_at;
+use section::row::offset_size_of;
 use section::row::row_length;
-use section::row::size_of;
 use section::shape::Shape;
 ghost use mathlib.Core.Path.{_≡_};
 ghost use Prim.Native.Nat.{_≤_};
 ghost use lib.ListN.{length, take};
-ghost use Rattle.accept.specs.Checks.{firstBad, wrongRowInfo, rowTests, rowsFault};
+ghost use Rattle.accept.specs.computed.Checks.{firstBad, wrongRowInfo, rowTests, rowsFault};
 
 // Whether an info byte has offset size 3 or a count that is not allowed.
 fn wrong_row_info(most: u8, info: u8) -> bool
     ensures { λ r. ⌜ r ≡ wrongRowInfo most info ⌝ }
 {
-    if size_of(info) == 3 {
+    if offset_size_of(info) == 3 {
         return true;
     }
     if count_of(info) == 0 {

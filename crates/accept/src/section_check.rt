@@ -16,8 +16,8 @@ ghost use mathlib.Core.Bool.{_&&_, not};
 ghost use mathlib.Core.List.{[], _∷_};
 ghost use mathlib.Core.Path.{_≡_};
 ghost use lib.Dec.{eqb, ltb};
-ghost use Rattle.accept.specs.Checks.{firstBad, andThen, givenAt, headerFault, entryFault, entriesVerdict, verdict};
-ghost use Rattle.accept.specs.Inner.{PartsOf};
+ghost use Rattle.accept.specs.computed.Checks.{firstBad, andThen, givenAt, headerFault, entryFault, entriesVerdict, verdict};
+ghost use Rattle.accept.specs.inner.Requires.{PartsOf};
 ghost use Rattle.accept.specs.declared.verdict.Fault.the-variants.{Sound};
 
 // Whether an entry starts below `low`, where the one before it ends, in a section that is sorted; both are held.

@@ -9,8 +9,8 @@ use native.Mathlib.Omega.{arith}
 use lib.Dec.{leb, ltb}
 use lib.IntN.{ℤ, pos, negsuc}
 use lib.ListN.{length, take, replicate, set}
-use Rattle.numbers.specs.Address.{inMemory, wholly}
 use Rattle.numbers.specs.Field.{fieldOf}
+use Rattle.numbers.specs.computed.Address.{inMemory, wholly}
 use Rattle.numbers.specs.declared.address.Address.{Address}
 use Rattle.numbers.specs.declared.address.Address.the-variants as address
 use Rattle.numbers.specs.declared.address.Word.{Word}
@@ -23,8 +23,10 @@ use Rattle.section.specs.declared.row.Base.the-variants.{Fp, Sp}
 use Rattle.section.specs.declared.row.Place.the-variants.{Register, AtOffset}
 use Rattle.section.specs.declared.row.Row.{Row}
 use Rattle.section.specs.declared.shape.Shape.{Shape}
-use Rattle.caller.specs.Caller.{cfaOf, callerSp, isSigned, isLow, spotOf, isLost, valueOf, bothOf, valuesOf, withValues, fromSpots, fromCfa, withCfa, fromRow, stepIn, stepNumber, stepRegisters}
-use Rattle.caller.specs.Opened.{callerOpened}
+use Rattle.caller.specs.Frame.{cfaOf, callerSp}
+use Rattle.caller.specs.Numbers.{stepNumber, stepRegisters}
+use Rattle.caller.specs.computed.Caller.{isSigned, isLow, spotOf, isLost, valueOf, bothOf, valuesOf, withValues, fromSpots, fromCfa, withCfa, fromRow, stepIn, unlessLost, unlessLow, unlessSigned, fromCfa}
+use Rattle.caller.specs.inner.Opened.{callerOpened}
 use Rattle.caller.specs.declared.place.Spot.{Spot}
 use Rattle.caller.specs.declared.place.Spot.the-variants.{Kept, Saved, Beyond}
 use Rattle.caller.specs.declared.place.Values.{Values}
@@ -160,7 +162,7 @@ spotsBy lost shape stack lies registers cfa ra fp =
 
 our-27 : (shape : Shape) (stack : List ℕ) (lies : Where) (registers : Registers) (cfa : ℕ) (ra fp : Spot)
     → fromSpots shape stack lies registers cfa ra fp ≡ spotsBy isLost shape stack lies registers cfa ra fp
-unfolding fromSpots spotsBy
+unfolding fromSpots unlessLost spotsBy
 our-27 shape stack lies registers cfa ra fp = refl
 
 trusting : Registers → Spot → Bool
@@ -194,7 +196,7 @@ cfaBy low shape stack lies registers row cfa =
 
 our-26 : (shape : Shape) (stack : List ℕ) (lies : Where) (registers : Registers) (row : Row) (cfa : ℕ)
     → fromCfa shape stack lies registers row cfa ≡ cfaBy isLow shape stack lies registers row cfa
-unfolding fromCfa cfaBy
+unfolding fromCfa unlessLow cfaBy
 our-26 shape stack lies registers row cfa = refl
 
 onlyBelow : Registers → ℕ → Bool
@@ -232,12 +234,12 @@ rowBy : (ℤ → Address) → Shape → List ℕ → Where → Registers → Row
 rowBy memory shape stack lies registers row =
     elim (isSigned shape row) [
       | true ↦ Refused registers 24
-      | false ↦ withCfa shape stack lies registers row (memory (cfaOf registers row))
+      | false ↦ withCfa registers (memory (cfaOf registers row)) (fromCfa shape stack lies registers row)
     ]
 
 our-25 : (shape : Shape) (stack : List ℕ) (lies : Where) (registers : Registers) (row : Row)
     → fromRow shape stack lies registers row ≡ rowBy inMemory shape stack lies registers row
-unfolding fromRow rowBy
+unfolding fromRow unlessSigned rowBy
 our-25 shape stack lies registers row = refl
 
 wrapped : ℤ → Address

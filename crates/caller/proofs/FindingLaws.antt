@@ -1,54 +1,29 @@
--- What a step's lookup finds, and the lookup's own answer: in an accepted section they agree, so that what is proved of lookups
--- holds of a step's.
+-- What a step's lookup finds: in a section that obeys, what the lookup's own cases say (`finds-exactly-when`, `unfound-exactly-when`), and
+-- what the lookup by itself answers (`answers-exactly-when`).
 -- Assumes nothing.
-use mathlib.Core.Path.{_≡_, refl, ap}
+use mathlib.Core.Path.{_≡_, ap}
 use mathlib.Core.List.{List}
-use mathlib.Core.Logic.{_↔_}
+use mathlib.Core.Logic.{_⊎_, _↔_, Iff·trans}
 use Prim.Native.Nat.{ℕ, _<_}
 use native.Mathlib.Omega.{arith}
-use lib.IntN.{ℤ}
-use lib.ListN.{getD}
-use Rattle.numbers.specs.Held.{distance}
-use Rattle.section.specs.Meaning.{functionsOf}
+use Rattle.numbers.specs.Start.{distance}
 use Rattle.section.specs.declared.row.Row.{Row}
-use Rattle.accept.specs.Checks.{verdict}
+use Rattle.accept.specs.Rules.{Obeys}
+use Rattle.accept.specs.computed.Checks.{verdict}
 use Rattle.accept.specs.declared.verdict.Verdict.the-variants.{Accepted}
-use Rattle.lookup.specs.Answers.{withRow, withCover, outcome, answer, answerOf, afterCheck, lookupOf, outcomeNumber}
-use Rattle.lookup.specs.Covering.{covering, coverOf}
-use Rattle.lookup.specs.Finding.{Finding, finds, refuses, findingOf, lookIn}
-use Rattle.lookup.specs.Halving.{noFunction}
-use Rattle.lookup.specs.Rows.{rowFor}
+use Rattle.accept.proofs.Exactly.{accepted-exactly-when}
+use Rattle.lookup.specs.Cases.{FoundCase, UnfoundCase}
+use Rattle.lookup.specs.Finding.{finds, refuses, findingOf}
+use Rattle.lookup.specs.Numbers.{Unfound, numberOfUnfound, outcomeNumber}
+use Rattle.lookup.specs.computed.Answers.{answerAfter, lookupOf, lookIn}
 use Rattle.lookup.specs.declared.answer.Outcome.{Outcome}
 use Rattle.lookup.specs.declared.answer.Outcome.the-variants.{Found, Unsound, NoFunction, Dispute, NoRow}
-use Rattle.lookup.specs.declared.rows.Scan.{Scan}
-use Rattle.lookup.specs.declared.rows.Scan.the-variants.{Missed, Hit}
-use Rattle.lookup.specs.declared.search.Cover.{Cover}
-use Rattle.lookup.specs.declared.search.Cover.the-variants.{Nobody, One, Two}
+use Rattle.lookup.proofs.Exactly.{found-exactly-when}
+use Rattle.lookup.proofs.NumberLaws as lookup
+use Rattle.lookup.proofs.NumberLaws.{number-of-unfound}
 
--- ---- a row, 21, 22 or 23
+-- ---- the lookup's own answer, by any outcome
 
-pub data Looks (found : Finding) : Type 0 where
-  looks-row : (row : Row) (number : ℕ) → found ≡ finds row number → Looks found
-  looks-21 : found ≡ refuses 21 → Looks found
-  looks-22 : found ≡ refuses 22 → Looks found
-  looks-23 : found ≡ refuses 23 → Looks found
-
-pub look-decided : (s : List ℕ) (address pc : ℕ) → Looks (lookIn s address pc)
-unfolding lookIn answerOf answer outcome withCover findingOf withRow
-look-decided s address pc = by-cover (distance address pc) (coverOf (covering (distance address pc) (functionsOf s)))
-  where
-    by-scan : (i : ℕ) (scan : Scan) → Looks (findingOf (withRow i scan))
-    by-scan i Missed = looks-23 refl
-    by-scan i (Hit row number) = looks-row row number refl
-
-    by-cover : (d : ℤ) (cover : Cover) → Looks (findingOf (withCover d (functionsOf s) cover))
-    by-cover d Nobody = looks-21 refl
-    by-cover d (One i) = by-scan i (rowFor d (getD (functionsOf s) i noFunction))
-    by-cover d (Two i j) = looks-22 refl
-
--- ---- the lookup's own answer
-
--- by any outcome
 refuses-number : (o : Outcome) (number : ℕ) → 0 < number → (findingOf o ≡ refuses number) ↔ (outcomeNumber o ≡ number)
 unfolding findingOf outcomeNumber
 refuses-number (Found row i k) number h = (λ e. absurd (let z : _≡_ {A = ℕ} 0 1 = cc in omega arith), λ e. absurd (omega arith))
@@ -65,15 +40,30 @@ finds-row NoFunction row k = (λ e. absurd (let z : _≡_ {A = ℕ} 0 1 = cc in 
 finds-row (Dispute i j) row k = (λ e. absurd (let z : _≡_ {A = ℕ} 0 1 = cc in omega arith), λ h. let e = h .1 in cc)
 finds-row (NoRow i) row k = (λ e. absurd (let z : _≡_ {A = ℕ} 0 1 = cc in omega arith), λ h. let e = h .1 in cc)
 
-module _ (s : List ℕ) (accepted : verdict s ≡ Accepted) (address pc : ℕ) where
+module _ (s : List ℕ) (obeys : Obeys s) (address pc : ℕ) where
+  accepted : verdict s ≡ Accepted
+  accepted = accepted-exactly-when s .1 obeys
+
   look-is : lookIn s address pc ≡ findingOf (lookupOf s address pc .outcome)
-  unfolding lookIn lookupOf afterCheck
+  unfolding lookIn lookupOf answerAfter
   look-is = rw accepted
 
-  pub refuses-exactly-when : (number : ℕ) → 0 < number
-      → (lookIn s address pc ≡ refuses number) ↔ (outcomeNumber (lookupOf s address pc .outcome) ≡ number)
-  refuses-exactly-when number some = rw look-is (refuses-number (lookupOf s address pc .outcome) number some)
+  pub answers-exactly-when : (row : Row) (k : ℕ) → (lookIn s address pc ≡ finds row k) ↔ ((i : ℕ) × (lookupOf s address pc .outcome ≡ Found row i k))
+  answers-exactly-when row k = rw look-is (finds-row (lookupOf s address pc .outcome) row k)
 
-  pub finds-exactly-when : (row : Row) (k : ℕ)
-      → (lookIn s address pc ≡ finds row k) ↔ ((i : ℕ) × (lookupOf s address pc .outcome ≡ Found row i k))
-  finds-exactly-when row k = rw look-is (finds-row (lookupOf s address pc .outcome) row k)
+  pub finds-exactly-when : (row : Row) (k : ℕ) → (lookIn s address pc ≡ finds row k) ↔ ((i : ℕ) × FoundCase s (distance address pc) row i k)
+  finds-exactly-when row k =
+      Iff·trans (answers-exactly-when row k) (
+        λ h. (h .0, found-exactly-when s accepted address pc row (h .0) k .0 (h .1)),
+        λ h. (h .0, found-exactly-when s accepted address pc row (h .0) k .1 (h .1)),
+      )
+
+  pub unfound-exactly-when : (why : Unfound) → (lookIn s address pc ≡ refuses (numberOfUnfound why)) ↔ UnfoundCase s (distance address pc) why
+  unfound-exactly-when why =
+      Iff·trans
+      (rw look-is (refuses-number (lookupOf s address pc .outcome) (numberOfUnfound why) (omega (arith, number-of-unfound why))))
+      (lookup.unfound-exactly-when s accepted address pc why)
+
+  pub looked-up : ((row : Row) × (i : ℕ) × (k : ℕ) × FoundCase s (distance address pc) row i k)
+      ⊎ ((why : Unfound) × UnfoundCase s (distance address pc) why)
+  looked-up = lookup.found-or-unfound s accepted address pc

@@ -8,11 +8,12 @@ use Rattle.section.specs.Meaning.{shapeOf}
 use Rattle.section.specs.Shape.{shape}
 use Rattle.section.specs.declared.header.Layout.{Layout}
 use Rattle.section.specs.declared.shape.Shape.{Shape}
-use Rattle.lookup.specs.Answers.{answerOf}
-use Rattle.lookup.specs.Finding.{findingOf, lookIn}
-use Rattle.lookup.specs.Inner.{AcceptedOf}
+use Rattle.lookup.specs.Finding.{findingOf}
+use Rattle.lookup.specs.computed.Answers.{answerOf, lookIn}
+use Rattle.lookup.specs.inner.Requires.{AcceptedOf}
 use Rattle.lookup.specs.declared.answer.Answer.{Answer}
-use Rattle.caller.specs.Caller.{fromFinding, askedOf, lookAt, stepOf}
+use Rattle.caller.specs.Frame.{askedOf}
+use Rattle.caller.specs.computed.Caller.{lookAt, withFinding, fromFinding, stepOf}
 use Rattle.caller.specs.declared.registers.Asked.{Asked}
 use Rattle.caller.specs.declared.registers.Asked.the-variants.{At, Nowhere}
 use Rattle.caller.specs.declared.registers.Registers.{Registers}
@@ -24,7 +25,7 @@ module _ (s stack : List ℕ) (lies : Where) (registers : Registers) where
   -- where there is no PC to look up
   pub nowhere-step : {asked : Asked} → asked ≡ askedOf registers → asked ≡ Nowhere
       → Refused registers 21 ≡ stepOf (shapeOf s) (lookIn s (lies .section)) stack lies registers
-  unfolding lookAt fromFinding stepOf
+  unfolding lookAt fromFinding withFinding stepOf
   nowhere-step is nowhere = rw (sym is ∙ nowhere)
 
   pub looked-up-step : {layout : Layout} {asked : Asked} {pc : ℕ} {answer : Answer} {here : Shape} {step : Step}

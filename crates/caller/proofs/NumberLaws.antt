@@ -1,26 +1,28 @@
--- The numbers of a step: which there are, and that each is given exactly when its refusal is the first (`number-exactly-when`), or
--- the section's check refuses with it (`rule-exactly-when`). And what a step in a checked section can be, for any shape: never a
--- section's refusal, and where it is refused, the old registers with 21 to 28 (`checked`).
+-- The numbers of a step: no two causes have one, and each is given exactly when its cause holds (`step-given`). And a caller has no mark,
+-- whatever a lookup finds (`caller-unmarked`).
 -- Assumes nothing.
-use mathlib.Core.Path.{_≡_, refl, sym, _∙_, ap}
+use mathlib.Core.Path.{_≡_, refl, sym, _∙_, ap, subst}
 use mathlib.Core.List.{List, [], _∷_}
 use mathlib.Core.Logic.{_⊎_, inl, inr, _↔_, ⊎-elim}
 use Prim.Native.Nat.{ℕ, _-_, _≤_}
 use native.Mathlib.Omega.{arith}
 use lib.ListN.{getD}
-use Rattle.numbers.specs.Address.{inMemory}
+use Rattle.numbers.specs.computed.Address.{inMemory}
 use Rattle.numbers.specs.declared.address.Address.{Address}
 use Rattle.numbers.specs.declared.address.Address.the-variants as address
 use Rattle.section.specs.declared.row.Row.{Row}
 use Rattle.section.specs.declared.shape.Shape.{Shape}
-use Rattle.accept.specs.Checks.{verdict}
-use Rattle.accept.specs.Given.{Rule, numberOfRule}
-use Rattle.accept.specs.declared.verdict.Verdict.the-variants as verdict
-use Rattle.accept.proofs.Exactly.{number-of-rule, verdict-number}
-use Rattle.lookup.specs.Finding.{Finding, lookIn}
+use Rattle.accept.specs.Given.{numberOfRule}
+use Rattle.accept.proofs.CauseLaws.{Distinct, Due, due-exactly-when}
+use Rattle.accept.proofs.Exactly.{number-of-rule, by-number}
+use Rattle.lookup.specs.Finding.{Finding, finds, refuses}
+use Rattle.lookup.specs.Numbers.{Unfound}
 use Rattle.lookup.proofs.CoveringLaws.{by-value}
-use Rattle.caller.specs.Caller.{cfaOf, callerSp, isSigned, isLow, isLost, spotOf, valuesOf, withValues, fromSpots, fromCfa, withCfa, fromRow, fromFinding, askedOf, lookAt, stepOf, stepIn, stepNumber}
-use Rattle.caller.specs.Cases.{Known, WindowFits, Refusal, window, noFunction, dispute, noRow, signed, cfaOutside, cfaLow, raLost, wordOutside, numberOfRefusal, Given, Case}
+use Rattle.lookup.proofs.NumberLaws.{same-unfound, number-of-unfound}
+use Rattle.caller.specs.Cases.{OnStep, Case, CallerCase}
+use Rattle.caller.specs.Frame.{askedOf, cfaOf, callerSp}
+use Rattle.caller.specs.Numbers.{Refusal, unfound, signed, cfaOutside, cfaLow, raLost, wordOutside, numberOfRefusal, StepCause, window, unsound, refused, numberOfStepCause, stepNumber}
+use Rattle.caller.specs.computed.Caller.{isSigned, isLow, isLost, spotOf, valuesOf, withFinding, unlessSigned, withCfa, unlessLow, unlessLost, withValues, fromSpots, fromCfa, fromRow, fromFinding, lookAt, stepOf, stepIn}
 use Rattle.caller.specs.declared.place.Spot.{Spot}
 use Rattle.caller.specs.declared.place.Values.{Values}
 use Rattle.caller.specs.declared.place.Values.the-variants.{Both, NoRa, NoFp}
@@ -28,151 +30,160 @@ use Rattle.caller.specs.declared.registers.Registers.{Registers}
 use Rattle.caller.specs.declared.registers.Step.{Step}
 use Rattle.caller.specs.declared.registers.Step.the-variants.{Caller, Unsound, Refused}
 use Rattle.caller.specs.declared.registers.Where.{Where}
-use Rattle.caller.proofs.FindingLaws.{Looks, looks-row, looks-21, looks-22, looks-23, look-decided}
 use Rattle.caller.proofs.StepLaws.{step-exactly-when}
 
--- ---- the numbers of the refusals
+-- ---- no two causes have one number
 
--- the refusals by their numbers, from 21 on; past them 41
-listed : List Refusal
-listed = noFunction ∷ dispute ∷ noRow ∷ signed ∷ cfaOutside ∷ cfaLow ∷ raLost ∷ wordOutside ∷ []
+-- the refusals by a row, from 24 on
+byRow : List Refusal
+byRow = signed ∷ cfaOutside ∷ cfaLow ∷ raLost ∷ wordOutside ∷ []
 
 abbrev refusalOf : ℕ → Refusal
-unfolding listed
-refusalOf number = getD listed (number - 21) window
+unfolding byRow
+refusalOf number = getD byRow (number - 24) signed
 
-at-its-number : (refusal : Refusal) → refusalOf (numberOfRefusal refusal) ≡ refusal
+-- a refusal is the lookup's, or is found by its number
+abbrev AtItsNumber : Refusal → Type 0
+AtItsNumber refusal =
+    ((why : Unfound) × (refusal ≡ unfound why))
+    ⊎ ((24 ≤ numberOfRefusal refusal) × (numberOfRefusal refusal ≤ 28) × (refusalOf (numberOfRefusal refusal) ≡ refusal))
+
+at-its-number : (refusal : Refusal) → AtItsNumber refusal
 unfolding refusalOf numberOfRefusal
-at-its-number window = refl
-at-its-number noFunction = refl
-at-its-number dispute = refl
-at-its-number noRow = refl
-at-its-number signed = refl
-at-its-number cfaOutside = refl
-at-its-number cfaLow = refl
-at-its-number raLost = refl
-at-its-number wordOutside = refl
+at-its-number (unfound why) = inl (why, refl)
+at-its-number signed = inr (omega arith, omega arith, refl)
+at-its-number cfaOutside = inr (omega arith, omega arith, refl)
+at-its-number cfaLow = inr (omega arith, omega arith, refl)
+at-its-number raLost = inr (omega arith, omega arith, refl)
+at-its-number wordOutside = inr (omega arith, omega arith, refl)
 
--- no two have one number
-pub by-number : (refusal other : Refusal) → numberOfRefusal refusal ≡ numberOfRefusal other → refusal ≡ other
-by-number refusal other e = sym (at-its-number refusal) ∙ ap refusalOf e ∙ at-its-number other
-
--- 21 to 28, or 41
-pub refusal-number : (refusal : Refusal) → ((21 ≤ numberOfRefusal refusal) × (numberOfRefusal refusal ≤ 28)) ⊎ (numberOfRefusal refusal ≡ 41)
+-- 21 to 28
+pub number-of-refusal : (refusal : Refusal) → (21 ≤ numberOfRefusal refusal) × (numberOfRefusal refusal ≤ 28)
 unfolding numberOfRefusal
-refusal-number window = inr refl
-refusal-number noFunction = inl (omega arith)
-refusal-number dispute = inl (omega arith)
-refusal-number noRow = inl (omega arith)
-refusal-number signed = inl (omega arith)
-refusal-number cfaOutside = inl (omega arith)
-refusal-number cfaLow = inl (omega arith)
-refusal-number raLost = inl (omega arith)
-refusal-number wordOutside = inl (omega arith)
+number-of-refusal refusal =
+    ⊎-elim
+    (λ h. let (why, is) = h in rw is (omega (arith, number-of-unfound why)))
+    (λ h. (omega (arith, h .0), h .1))
+    (at-its-number refusal)
 
-pub above-15 : (refusal : Refusal) → 16 ≤ numberOfRefusal refusal
-above-15 refusal = ⊎-elim (λ h. omega arith) (λ h. omega arith) (refusal-number refusal)
+pub same-refusal : (refusal other : Refusal) → numberOfRefusal refusal ≡ numberOfRefusal other → refusal ≡ other
+unfolding numberOfRefusal
+same-refusal refusal other e = by (at-its-number refusal) (at-its-number other)
+  where
+    by : AtItsNumber refusal → AtItsNumber other → refusal ≡ other
+    by (inl (why, is)) (inl (also, too)) =
+        is ∙ ap unfound (same-unfound why also (sym (ap numberOfRefusal is) ∙ e ∙ ap numberOfRefusal too)) ∙ sym too
+    by (inl (why, is)) (inr (least, most, found)) =
+        absurd (let same = sym (ap numberOfRefusal is) ∙ e in omega (arith, same, number-of-unfound why))
+    by (inr (least, most, found)) (inl (why, is)) =
+        absurd (let same = e ∙ ap numberOfRefusal is in omega (arith, same, number-of-unfound why))
+    by (inr (least, most, found)) (inr (also, too, here)) = sym found ∙ ap refusalOf e ∙ here
+
+same-cause : (cause other : StepCause) → numberOfStepCause cause ≡ numberOfStepCause other → cause ≡ other
+unfolding numberOfStepCause
+same-cause window window e = refl
+same-cause window (unsound rule) e = absurd (omega (arith, number-of-rule rule, e))
+same-cause window (refused refusal) e = absurd (omega (arith, number-of-refusal refusal, e))
+same-cause (unsound rule) window e = absurd (omega (arith, number-of-rule rule, e))
+same-cause (unsound rule) (unsound other) e = ap unsound (by-number rule other e)
+same-cause (unsound rule) (refused refusal) e = absurd (omega (arith, number-of-rule rule, number-of-refusal refusal, e))
+same-cause (refused refusal) window e = absurd (omega (arith, number-of-refusal refusal, e))
+same-cause (refused refusal) (unsound rule) e = absurd (omega (arith, number-of-rule rule, number-of-refusal refusal, e))
+same-cause (refused refusal) (refused other) e = ap refused (same-refusal refusal other e)
+
+pub step-distinct : Distinct numberOfStepCause
+unfolding numberOfStepCause
+step-distinct = record { same = same-cause; above-0 = above }
+  where
+    above : (cause : StepCause) → 1 ≤ numberOfStepCause cause
+    above window = omega arith
+    above (unsound rule) = omega (arith, number-of-rule rule)
+    above (refused refusal) = omega (arith, number-of-refusal refusal)
 
 -- ---- by number
 
--- none of 29 to 40 is a step's
-pub not-known : (number : ℕ) → 29 ≤ number → number ≤ 40 → ¬ Known number
-not-known number least most (inl h) = omega arith
-not-known number least most (inr (inl h)) = omega arith
-not-known number least most (inr (inr (inl h))) = omega arith
-not-known number least most (inr (inr (inr h))) = omega arith
-
 module _ (s stack : List ℕ) (lies : Where) (registers : Registers) where
-  pub known : (o : Step) → Case s stack lies registers o → Known (stepNumber o)
+  abbrev number : ℕ
+  number = stepNumber (stepIn s stack lies registers)
+
+  -- what a cause that holds makes of the answer
+  step-makes : (cause : StepCause) → OnStep s stack lies registers cause → number ≡ numberOfStepCause cause
+  unfolding stepNumber numberOfStepCause
+  step-makes window on = ap stepNumber (step-exactly-when s stack lies registers (Refused registers 41) .1 (refl, inl (refl, on)))
+  step-makes (unsound rule) (fits, (index, given)) =
+      ap stepNumber (step-exactly-when s stack lies registers (Unsound registers (numberOfRule rule) index) .1 (refl, (fits, rule, refl, given)))
+  step-makes (refused refusal) on =
+      ap stepNumber (step-exactly-when s stack lies registers (Refused registers (numberOfRefusal refusal)) .1 (refl, inr (refusal, refl, on)))
+
+  -- there is a caller, or a cause holds
+  pub caller-or-cause : ((caller : Registers) × CallerCase s stack lies registers caller)
+      ⊎ ((cause : StepCause) × OnStep s stack lies registers cause)
+  caller-or-cause = by (stepIn s stack lies registers) (step-exactly-when s stack lies registers _ .0 refl)
+    where
+      by : (o : Step) → Case s stack lies registers o
+          → ((caller : Registers) × CallerCase s stack lies registers caller) ⊎ ((cause : StepCause) × OnStep s stack lies registers cause)
+      by (Caller caller) case = inl (caller, case)
+      by (Unsound old n index) (same, (fits, rule, is, given)) = inr (unsound rule, (fits, (index, given)))
+      by (Refused old n) (same, inl (is, past)) = inr (window, past)
+      by (Refused old n) (same, inr (refusal, is, on)) = inr (refused refusal, on)
+
+  pub step-due : Due numberOfStepCause number (OnStep s stack lies registers)
   unfolding stepNumber
-  known (Caller caller) h = inl refl
-  known (Unsound old number index) h = inr (inl (verdict-number s number index (h .2)))
-  known (Refused old number) h = rw (h .2) (inr (inr (refusal-number (h .1))))
+  step-due =
+      ⊎-elim
+      (λ h. inl (ap stepNumber (step-exactly-when s stack lies registers (Caller (h .0)) .1 (h .1))))
+      (λ h. inr (h .0, step-makes (h .0) (h .1), h .1))
+      caller-or-cause
 
-  -- a refusal's number is neither 0 nor one of 1 to 15
-  tells : (refusal : Refusal) (o : Step) → Case s stack lies registers o → stepNumber o ≡ numberOfRefusal refusal
-      → Given s stack lies registers refusal
-  unfolding stepNumber
-  tells refusal (Caller caller) h is = absurd (omega (arith, above-15 refusal))
-  tells refusal (Unsound old number index) h is = absurd (omega (arith, above-15 refusal, verdict-number s number index (h .2)))
-  tells refusal (Refused old number) h is =
-      let (same, other, number-is, given) = h in
-      rw (by-number refusal other (sym is ∙ number-is)) given
+  -- 41, 1 to 15 and 21 to 28: each is given exactly when its cause holds
+  pub step-given : (cause : StepCause) → (number ≡ numberOfStepCause cause) ↔ OnStep s stack lies registers cause
+  step-given = due-exactly-when numberOfStepCause step-distinct number (OnStep s stack lies registers) step-due step-makes
 
-  pub number-exactly-when : (refusal : Refusal)
-      → (stepNumber (stepIn s stack lies registers) ≡ numberOfRefusal refusal) ↔ Given s stack lies registers refusal
-  unfolding stepNumber
-  number-exactly-when refusal = (
-    tells refusal (stepIn s stack lies registers) (step-exactly-when s stack lies registers _ .0 refl),
-    λ given. ap stepNumber (step-exactly-when s stack lies registers (Refused registers (numberOfRefusal refusal)) .1 (refl, refusal, refl, given)),
-  )
+-- ---- a caller has no mark
 
-  rule-tells : (rule : Rule) (o : Step) → Case s stack lies registers o → stepNumber o ≡ numberOfRule rule
-      → WindowFits stack lies × ((index : ℕ) × (verdict s ≡ verdict.Refused (numberOfRule rule) index))
-  unfolding stepNumber
-  rule-tells rule (Caller caller) h is = absurd (omega (arith, number-of-rule rule))
-  rule-tells rule (Unsound old number index) h is = (h .1, (index, rw is at (h .2)))
-  rule-tells rule (Refused old number) h is = absurd (omega (arith, number-of-rule rule, above-15 (h .1), h .2))
-
-  pub rule-exactly-when : (rule : Rule)
-      → (stepNumber (stepIn s stack lies registers) ≡ numberOfRule rule)
-      ↔ (WindowFits stack lies × ((index : ℕ) × (verdict s ≡ verdict.Refused (numberOfRule rule) index)))
-  unfolding stepNumber
-  rule-exactly-when rule = (
-    rule-tells rule (stepIn s stack lies registers) (step-exactly-when s stack lies registers _ .0 refl),
-    λ h.
-        let (fits, (index, e)) = h in
-        ap stepNumber (step-exactly-when s stack lies registers (Unsound registers (numberOfRule rule) index) .1 (refl, fits, e)),
-  )
-
--- ---- a step in a checked section
-
--- a caller without a mark, or the old registers with a number from 21 to 28
-abbrev pub Checked : Registers → Step → Type 0
-Checked registers (Caller caller) = caller .first ≡ 0
-Checked registers (Unsound old number index) = ⊥
-Checked registers (Refused old number) = (old ≡ registers) × (21 ≤ number) × (number ≤ 28)
+abbrev Unmarked : Step → Type 0
+Unmarked (Caller caller) = caller .first ≡ 0
+Unmarked (Unsound old number index) = Unit {0}
+Unmarked (Refused old number) = Unit {0}
 
 module _ (shape : Shape) (stack : List ℕ) (lies : Where) (registers : Registers) where
-  values-checked : (cfa : ℕ) (values : Values) → Checked registers (withValues registers cfa values)
+  values-unmarked : (cfa : ℕ) (values : Values) → Unmarked (withValues registers cfa values)
   unfolding withValues
-  values-checked cfa NoRa = (refl, omega arith, omega arith)
-  values-checked cfa NoFp = (refl, omega arith, omega arith)
-  values-checked cfa (Both ra fp) = refl
+  values-unmarked cfa NoRa = tt
+  values-unmarked cfa NoFp = tt
+  values-unmarked cfa (Both ra fp) = refl
 
-  spots-checked : (cfa : ℕ) (ra fp : Spot) → Checked registers (fromSpots shape stack lies registers cfa ra fp)
-  unfolding fromSpots
-  spots-checked cfa ra fp =
+  spots-unmarked : (cfa : ℕ) (ra fp : Spot) → Unmarked (fromSpots shape stack lies registers cfa ra fp)
+  unfolding fromSpots unlessLost
+  spots-unmarked cfa ra fp =
       by-value (isLost registers ra)
-      (λ e. rw (e, fromSpots) (refl, omega arith, omega arith))
-      (λ e. rw (e, fromSpots) (values-checked cfa (valuesOf stack (lies .stack) (shape .order) registers ra fp)))
+      (λ e. rw (e, unlessLost) tt)
+      (λ e. rw (e, unlessLost) (values-unmarked cfa (valuesOf stack (lies .stack) (shape .order) registers ra fp)))
 
-  cfa-checked : (row : Row) (cfa : ℕ) → Checked registers (fromCfa shape stack lies registers row cfa)
-  unfolding fromCfa
-  cfa-checked row cfa =
+  cfa-unmarked : (row : Row) (cfa : ℕ) → Unmarked (fromCfa shape stack lies registers row cfa)
+  unfolding fromCfa unlessLow
+  cfa-unmarked row cfa =
       by-value (isLow registers (callerSp cfa))
-      (λ e. rw (e, fromCfa) (refl, omega arith, omega arith))
-      (λ e. rw (e, fromCfa) (spots-checked cfa (spotOf cfa (row .ra)) (spotOf cfa (row .fp))))
+      (λ e. rw (e, unlessLow) tt)
+      (λ e. rw (e, unlessLow) (spots-unmarked cfa (spotOf cfa (row .ra)) (spotOf cfa (row .fp))))
 
-  memory-checked : (row : Row) (a : Address) → Checked registers (withCfa shape stack lies registers row a)
+  memory-unmarked : (row : Row) (a : Address) → Unmarked (withCfa registers a (fromCfa shape stack lies registers row))
   unfolding withCfa
-  memory-checked row address.Outside = (refl, omega arith, omega arith)
-  memory-checked row (address.At cfa) = cfa-checked row cfa
+  memory-unmarked row address.Outside = tt
+  memory-unmarked row (address.At cfa) = cfa-unmarked row cfa
 
-  row-checked : (row : Row) → Checked registers (fromRow shape stack lies registers row)
-  unfolding fromRow
-  row-checked row =
+  row-unmarked : (row : Row) → Unmarked (fromRow shape stack lies registers row)
+  unfolding fromRow unlessSigned
+  row-unmarked row =
       by-value (isSigned shape row)
-      (λ e. rw (e, fromRow) (refl, omega arith, omega arith))
-      (λ e. rw (e, fromRow) (memory-checked row (inMemory (cfaOf registers row))))
+      (λ e. rw (e, unlessSigned) tt)
+      (λ e. rw (e, unlessSigned) (memory-unmarked row (inMemory (cfaOf registers row))))
 
-  finding-checked : (found : Finding) → Looks found → Checked registers (fromFinding shape stack lies registers found)
-  unfolding fromFinding
-  finding-checked found (looks-row row number e) = rw e (row-checked row)
-  finding-checked found (looks-21 e) = rw e (refl, omega arith, omega arith)
-  finding-checked found (looks-22 e) = rw e (refl, omega arith, omega arith)
-  finding-checked found (looks-23 e) = rw e (refl, omega arith, omega arith)
+  finding-unmarked : (found : Finding) → Unmarked (fromFinding shape stack lies registers found)
+  unfolding fromFinding withFinding
+  finding-unmarked (finds row number) = row-unmarked row
+  finding-unmarked (refuses number) = tt
 
-  pub checked : (s : List ℕ) (address : ℕ) → Checked registers (stepOf shape (lookIn s address) stack lies registers)
-  unfolding stepOf askedOf lookAt
-  checked s address = finding-checked (lookIn s address (registers .pc)) (look-decided s address (registers .pc))
+  pub caller-unmarked : (look : ℕ → Finding) (caller : Registers) → stepOf shape look stack lies registers ≡ Caller caller → caller .first ≡ 0
+  unfolding stepOf
+  caller-unmarked look caller is = subst Unmarked is (finding-unmarked (lookAt look (askedOf registers)))

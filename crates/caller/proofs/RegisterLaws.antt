@@ -7,11 +7,12 @@ use mathlib.Core.Bool.{Bool, true, false, not, _&&_, _||_}
 use mathlib.Core.Path.{_≡_, refl, _∙_, ap}
 use Prim.Native.Nat.{ℕ, _<_, _≤_}
 use lib.Dec.{eqb, ltb, leb}
-use Rattle.numbers.specs.Address.{inMemory, addressOf}
+use Rattle.numbers.specs.computed.Address.{inMemory, addressOf}
 use Rattle.numbers.specs.declared.address.Address.{Address}
 use Rattle.section.specs.declared.row.Row.{Row}
 use Rattle.lookup.proofs.CoveringLaws.{by-value}
-use Rattle.caller.specs.Caller.{marked, baseValue, cfaOf, isLow}
+use Rattle.caller.specs.Frame.{baseValue, cfaOf}
+use Rattle.caller.specs.computed.Caller.{hasMark, isLow}
 use Rattle.caller.specs.declared.registers.Registers.{Registers}
 
 pub twice-not : (test : Bool) → test ≡ not (not test)
@@ -42,11 +43,11 @@ or-both false false = refl
 
 module _ (registers : Registers) (sp : ℕ) where
   pub low-unmarked : registers .first ≡ 0 → leb sp (registers .sp) ≡ isLow registers sp
-  unfolding isLow marked
+  unfolding isLow hasMark
   low-unmarked none = rw (eq-eqb _ _ none) (at-most sp (registers .sp) ∙ or-both (ltb sp (registers .sp)) (eqb sp (registers .sp)))
 
   pub low-marked : ¬ (registers .first ≡ 0) → ltb sp (registers .sp) ≡ isLow registers sp
-  unfolding isLow marked
+  unfolding isLow hasMark
   low-marked set = rw (ne-eqb _ _ set) (or-none (ltb sp (registers .sp)) (eqb sp (registers .sp)))
 
 -- CFA, by the value of the base and the sum

@@ -11,7 +11,7 @@ use lib.IntN.{ℤ, pos, negsuc, _+ℤ_}
 use lib.ListN.{length}
 use lib.Signed.{_≤ℤ_, _<ℤ_, leZ-yes, ltZ-yes}
 use borrow.Author.Tests.{ltb-true, ltb-false, lt-ltb, le-ltb, le-leb}
-use Rattle.numbers.specs.Address.{inMemory, addressOf, windowFits, wholly, wordOf}
+use Rattle.numbers.specs.computed.Address.{inMemory, addressOf, windowFits, wholly, wordOf}
 use Rattle.numbers.specs.declared.address.Address.{Address}
 use Rattle.numbers.specs.declared.address.Address.the-variants as address
 use Rattle.numbers.specs.declared.address.Word.the-variants as word
@@ -23,8 +23,9 @@ use Rattle.section.specs.declared.row.Row.{Row}
 use Rattle.section.specs.declared.shape.Shape.{Shape}
 use Rattle.accept.proofs.Decides.{Shows, shown, denied, at-most, equal, both, either}
 use Rattle.lookup.proofs.CoveringLaws.{by-value, is-false}
-use Rattle.caller.specs.Caller.{marked, isSigned, isLow, spotAt, spotOf, isLost, valueOf, callerSp}
 use Rattle.caller.specs.Cases.{WindowFits, Inside, WordIs, ValueIs, Outside, NoMark, Rule24, Rule26}
+use Rattle.caller.specs.Frame.{callerSp}
+use Rattle.caller.specs.computed.Caller.{hasMark, isSigned, isLow, spotAt, spotOf, isLost, valueOf}
 use Rattle.caller.specs.declared.registers.Registers.{Registers}
 use Rattle.caller.specs.declared.registers.Where.{Where}
 
@@ -50,8 +51,8 @@ pub signed-shows : (shape : Shape) (row : Row) → Shows (isSigned shape row) (R
 unfolding isSigned
 signed-shows shape row = both (is-set (shape .signs)) (is-set (row .signed))
 
-mark-shows : (registers : Registers) → Shows (not (marked registers)) (NoMark registers)
-unfolding marked
+mark-shows : (registers : Registers) → Shows (not (hasMark registers)) (NoMark registers)
+unfolding hasMark
 mark-shows registers = twice (equal _ _)
 
 -- 26

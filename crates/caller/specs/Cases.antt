@@ -5,25 +5,26 @@ use mathlib.Core.Bool.{true}
 use mathlib.Core.List.{List}
 use mathlib.Core.Logic.{_⊎_}
 use Prim.Native.Nat.{ℕ, _+_, _-_, _^_, _≤_, _<_}
-use lib.IntN.{ℤ, pos, _+ℤ_, _-ℤ_}
+use lib.IntN.{ℤ, pos, _+ℤ_}
 use lib.ListN.{length}
 use lib.Signed.{_≤ℤ_, _<ℤ_}
 use Rattle.numbers.specs.Field.{fieldOf}
+use Rattle.numbers.specs.Start.{distance}
 use Rattle.numbers.specs.declared.field.Order.{Order}
-use Rattle.section.specs.Entry.{typeOf}
-use Rattle.section.specs.Meaning.{areaOf, shapeOf, entryIn, rowAt}
-use Rattle.section.specs.Row.{countOf, sizeOf, offsetIn}
+use Rattle.section.specs.Meaning.{shapeOf}
 use Rattle.section.specs.declared.row.Place.{Place}
 use Rattle.section.specs.declared.row.Place.the-variants.{Register, AtOffset}
 use Rattle.section.specs.declared.row.Row.{Row}
 use Rattle.section.specs.declared.shape.Abi.{Abi}
-use Rattle.section.specs.declared.shape.Abi.the-variants.{Aarch64Big, Aarch64Little, Amd64}
+use Rattle.section.specs.declared.shape.Abi.the-variants.{Aarch64Big, Aarch64Little}
 use Rattle.section.specs.declared.shape.Shape.{Shape}
-use Rattle.accept.specs.Checks.{verdict}
-use Rattle.accept.specs.Rules.{rowInfoAt}
-use Rattle.accept.specs.declared.verdict.Verdict.the-variants as verdict
-use Rattle.lookup.specs.Finding.{finds, refuses, lookIn}
-use Rattle.caller.specs.Caller.{cfaOf, callerSp}
+use Rattle.accept.specs.Given.{Rule, numberOfRule, BrokenFirst}
+use Rattle.accept.specs.Given as accept
+use Rattle.accept.specs.Rules.{Obeys}
+use Rattle.lookup.specs.Cases.{FoundCase, UnfoundCase}
+use Rattle.caller.specs.Frame.{askedOf, cfaOf, callerSp}
+use Rattle.caller.specs.Numbers.{Refusal, unfound, signed, cfaOutside, cfaLow, raLost, wordOutside, numberOfRefusal, StepCause, window, unsound, refused, numberOfStepCause}
+use Rattle.caller.specs.declared.registers.Asked.the-variants.{At}
 use Rattle.caller.specs.declared.registers.Registers.{Registers}
 use Rattle.caller.specs.declared.registers.Step.{Step}
 use Rattle.caller.specs.declared.registers.Step.the-variants.{Caller, Unsound, Refused}
@@ -97,58 +98,25 @@ Rule27 registers row = (row .ra ≡ Register) × NoMark registers
 abbrev pub Rule28 : List ℕ → Where → Row → ℕ → Type 0
 Rule28 stack lies row cfa = Outside stack (lies .stack) cfa (row .ra) ⊎ Outside stack (lies .stack) cfa (row .fp)
 
--- the offset with this number, counted from 0, of row k of function i
-abbrev pub offsetOfRow : List ℕ → ℕ → ℕ → ℕ → ℤ
-offsetOfRow s i k number =
-    offsetIn (areaOf s) (shapeOf s .order) (sizeOf (rowInfoAt s i k)) (rowAt s i k + 2 ^ typeOf (entryIn s i .info) + 1) number .by
-
--- ---- the refusals of a step but 1 to 15, by name and in document 01's order, and their numbers
-
-pub data Refusal : Type 0 where
-  window : Refusal
-  noFunction : Refusal
-  dispute : Refusal
-  noRow : Refusal
-  signed : Refusal
-  cfaOutside : Refusal
-  cfaLow : Refusal
-  raLost : Refusal
-  wordOutside : Refusal
-
-unfoldable pub numberOfRefusal : Refusal → ℕ
-numberOfRefusal window = 41
-numberOfRefusal noFunction = 21
-numberOfRefusal dispute = 22
-numberOfRefusal noRow = 23
-numberOfRefusal signed = 24
-numberOfRefusal cfaOutside = 25
-numberOfRefusal cfaLow = 26
-numberOfRefusal raLost = 27
-numberOfRefusal wordOutside = 28
-
--- the numbers that a step can have: 0 for a caller, 1 to 15 of the section, and these
-abbrev pub Known : ℕ → Type 0
-Known number = (number ≡ 0) ⊎ ((1 ≤ number) × (number ≤ 15)) ⊎ ((21 ≤ number) × (number ≤ 28)) ⊎ (number ≡ 41)
-
 -- ---- "Checks in order": what a step came to
 
 module _ (s stack : List ℕ) (lies : Where) (registers : Registers) where
-  -- "Lookup at PC.": the checks before it pass, and it finds this row
-  pub record RowAt (row : Row) : Type 0 where
+  -- "41 .. Then 1 to 15. Lookup at PC.": the checks before the lookup pass, and this holds of d, "PC minus section address", with the PC
+  -- asked
+  pub record LookedUp (Holds : ℤ → Type 0) : Type 0 where
     pub fits : WindowFits stack lies
-    pub accepted : verdict s ≡ verdict.Accepted
-    pub number : ℕ
-    pub found : lookIn s (lies .section) (registers .pc) ≡ finds row number
+    pub obeys : Obeys s
+    pub pc : ℕ
+    pub asked : askedOf registers ≡ At pc
+    pub holds : Holds (distance (lies .section) pc)
 
-  -- "21, 22, 23.": the checks before it pass, and it is refused with this number
-  pub record NoRowAt (number : ℕ) : Type 0 where
-    pub fits : WindowFits stack lies
-    pub accepted : verdict s ≡ verdict.Accepted
-    pub refused : lookIn s (lies .section) (registers .pc) ≡ refuses number
+  -- the lookup finds this row: of some function i, with some number k
+  abbrev pub RowFound : Row → Type 0
+  RowFound row = LookedUp (λ d. (i : ℕ) × (k : ℕ) × FoundCase s d row i k)
 
   -- the row's CFA is this: 24 and 25 are past
   pub record CfaAt (row : Row) (cfa : ℕ) : Type 0 where
-    pub row-at : RowAt row
+    pub row-found : RowFound row
     pub not-24 : ¬ Rule24 (shapeOf s) row
     pub cfa-is : CfaIs registers row cfa
 
@@ -158,17 +126,24 @@ module _ (s stack : List ℕ) (lies : Where) (registers : Registers) where
     pub not-26 : ¬ Rule26 registers cfa
     pub not-27 : ¬ Rule27 registers row
 
-  -- the refusal of this name is the first
-  abbrev pub Given : Refusal → Type 0
-  Given window = Rule41 stack lies
-  Given noFunction = NoRowAt 21
-  Given dispute = NoRowAt 22
-  Given noRow = NoRowAt 23
-  Given signed = (row : Row) × RowAt row × Rule24 (shapeOf s) row
-  Given cfaOutside = (row : Row) × RowAt row × ¬ Rule24 (shapeOf s) row × Rule25 registers row
-  Given cfaLow = (row : Row) × (cfa : ℕ) × CfaAt row cfa × Rule26 registers cfa
-  Given raLost = (row : Row) × (cfa : ℕ) × CfaAt row cfa × ¬ Rule26 registers cfa × Rule27 registers row
-  Given wordOutside = (row : Row) × (cfa : ℕ) × WordsAt row cfa × Rule28 stack lies row cfa
+  -- ---- every number
+
+  -- the step's own refusal of this name is the first
+  abbrev pub OnRefusal : Refusal → Type 0
+  OnRefusal (unfound why) = LookedUp (λ d. UnfoundCase s d why)
+  OnRefusal signed = (row : Row) × RowFound row × Rule24 (shapeOf s) row
+  OnRefusal cfaOutside = (row : Row) × RowFound row × ¬ Rule24 (shapeOf s) row × Rule25 registers row
+  OnRefusal cfaLow = (row : Row) × (cfa : ℕ) × CfaAt row cfa × Rule26 registers cfa
+  OnRefusal raLost = (row : Row) × (cfa : ℕ) × CfaAt row cfa × ¬ Rule26 registers cfa × Rule27 registers row
+  OnRefusal wordOutside = (row : Row) × (cfa : ℕ) × WordsAt row cfa × Rule28 stack lies row cfa
+
+  -- what holds where a step gives the number of this cause
+  abbrev pub OnStep : StepCause → Type 0
+  OnStep window = Rule41 stack lies
+  OnStep (unsound rule) = WindowFits stack lies × BrokenFirst s rule
+  OnStep (refused refusal) = OnRefusal refusal
+
+  -- ---- every answer
 
   -- "The caller has PC = RA, SP = CFA, the new FP, LR unchanged and no mark."
   pub record CallerCase (caller : Registers) : Type 0 where
@@ -181,32 +156,18 @@ module _ (s stack : List ℕ) (lies : Where) (registers : Registers) where
     pub lr-is : caller .lr ≡ registers .lr
     pub first-is : caller .first ≡ 0
 
-  -- ---- the same RA and FP in the bytes of row k of function i, which was found: what document 01 says of each machine
+  -- "for 1 to 15 the entry's index"
+  abbrev pub UnsoundCase : ℕ → ℕ → Type 0
+  UnsoundCase number index = WindowFits stack lies × (rule : Rule) × (number ≡ numberOfRule rule) × accept.Given s rule index
 
-  -- "AArch64 the word at CFA plus the second offset, or LR when the count is 1 and the mark is set"
-  abbrev pub RaOnAarch64 : ℕ → ℕ → ℕ → ℕ → Type 0
-  RaOnAarch64 i k cfa ra =
-      ((2 ≤ countOf (rowInfoAt s i k)) × WordIs stack (lies .stack) (shapeOf s .order) (pos cfa +ℤ offsetOfRow s i k 1) ra)
-      ⊎ ((countOf (rowInfoAt s i k) ≡ 1) × ¬ NoMark registers × (ra ≡ registers .lr))
+  -- 41, or the step's own
+  abbrev pub RefusedCase : ℕ → Type 0
+  RefusedCase number =
+      ((number ≡ numberOfStepCause window) × Rule41 stack lies)
+      ⊎ ((refusal : Refusal) × (number ≡ numberOfRefusal refusal) × OnRefusal refusal)
 
-  -- "RA: AMD64 the word at CFA - 8"
-  abbrev pub RaInBytes : Abi → ℕ → ℕ → ℕ → ℕ → Type 0
-  RaInBytes Aarch64Big i k cfa ra = RaOnAarch64 i k cfa ra
-  RaInBytes Aarch64Little i k cfa ra = RaOnAarch64 i k cfa ra
-  RaInBytes Amd64 i k cfa ra = WordIs stack (lies .stack) (shapeOf s .order) (pos cfa -ℤ pos 8) ra
-
-  -- "FP: the word at CFA plus the FP offset when the row has one, else unchanged.": the FP offset has number `shapeOf s .fp`, by
-  -- "(CFA, FP)" and "(CFA, RA, FP)"
-  abbrev pub FpInBytes : ℕ → ℕ → ℕ → ℕ → Type 0
-  FpInBytes i k cfa fp =
-      ((shapeOf s .fp < countOf (rowInfoAt s i k))
-      × WordIs stack (lies .stack) (shapeOf s .order) (pos cfa +ℤ offsetOfRow s i k (shapeOf s .fp)) fp)
-      ⊎ ((countOf (rowInfoAt s i k) ≤ shapeOf s .fp) × (fp ≡ registers .fp))
-
-  -- ---- every answer
-
-  -- what holds where this is the answer; "a refusal hands back the old ones with its number, and for 1 to 15 the entry's index"
+  -- what holds where this is the answer; "a refusal hands back the old ones with its number"
   abbrev pub Case : Step → Type 0
   Case (Caller caller) = CallerCase caller
-  Case (Unsound old number index) = (old ≡ registers) × WindowFits stack lies × (verdict s ≡ verdict.Refused number index)
-  Case (Refused old number) = (old ≡ registers) × (refusal : Refusal) × (number ≡ numberOfRefusal refusal) × Given refusal
+  Case (Unsound old number index) = (old ≡ registers) × UnsoundCase number index
+  Case (Refused old number) = (old ≡ registers) × RefusedCase number

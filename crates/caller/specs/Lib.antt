@@ -1,3 +1,6 @@
-pub mod Caller
 pub mod Cases
-pub mod Opened
+pub mod Frame
+pub mod InBytes
+pub mod Numbers
+pub mod computed
+pub mod inner

@@ -7,7 +7,7 @@ use numbers::address::word_at;
 use numbers::field::Order;
 use section::row::Place;
 ghost use mathlib.Core.Path.{_≡_};
-ghost use Rattle.caller.specs.Caller.{spotAt, spotOf, isLost, valueOf, valuesOf};
+ghost use Rattle.caller.specs.computed.Caller.{spotAt, spotOf, isLost, valueOf, valuesOf};
 
 // A saved place with CFA known: kept in its register, saved at an address, or at an offset that leads beyond memory.
 pub enum Spot {

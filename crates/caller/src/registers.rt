@@ -4,8 +4,9 @@ use numbers::address::address_of;
 use section::row::Base;
 use section::row::Row;
 ghost use mathlib.Core.Path.{_≡_};
-ghost use Rattle.numbers.specs.Address.{inMemory};
-ghost use Rattle.caller.specs.Caller.{askedOf, baseValue, cfaOf, callerSp, isLow};
+ghost use Rattle.numbers.specs.computed.Address.{inMemory};
+ghost use Rattle.caller.specs.Frame.{askedOf, baseValue, cfaOf, callerSp, cfaOfSp};
+ghost use Rattle.caller.specs.computed.Caller.{isLow};
 
 // Five numbers, all of them any value. The first-frame mark is set where `first` is not 0.
 #[repr(C)]
@@ -76,6 +77,13 @@ pub fn caller_sp(cfa: u64) -> u64
     ensures { λ r. ⌜ r ≡ callerSp cfa ⌝ }
 {
     cfa
+}
+
+// The CFA of the frame whose caller has this SP.
+pub fn cfa_of_sp(sp: u64) -> u64
+    ensures { λ r. ⌜ r ≡ cfaOfSp sp ⌝ }
+{
+    sp
 }
 
 // Whether the stack would not shrink: the caller's SP is below SP, or equal to it without the mark.

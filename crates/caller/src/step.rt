@@ -26,9 +26,10 @@ use section::shape::Shape;
 use section::shape::shape_of;
 ghost use mathlib.Core.Path.{_≡_};
 ghost use Rattle.section.specs.Meaning.{shapeOf};
-ghost use Rattle.lookup.specs.Finding.{findingOf, lookIn};
-ghost use Rattle.lookup.specs.Inner.{AcceptedOf};
-ghost use Rattle.caller.specs.Caller.{isSigned, withValues, fromSpots, fromCfa, fromRow, fromFinding, stepOf, stepIn};
+ghost use Rattle.lookup.specs.Finding.{findingOf};
+ghost use Rattle.lookup.specs.computed.Answers.{lookIn};
+ghost use Rattle.lookup.specs.inner.Requires.{AcceptedOf};
+ghost use Rattle.caller.specs.computed.Caller.{isSigned, withValues, fromSpots, fromCfa, fromRow, fromFinding, stepOf, stepIn};
 
 // Whether the return address is signed, where the machine signs any.
 fn is_signed(shape: Shape, row: Row) -> bool

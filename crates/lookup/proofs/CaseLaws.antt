@@ -16,14 +16,15 @@ use Rattle.section.specs.Meaning.{rowIn, functionIn, functionsOf}
 use Rattle.section.specs.Row.{rowOf}
 use Rattle.section.specs.declared.row.Row.{Row}
 use Rattle.section.proofs.ListedLaws.{functions-length, functions-get}
-use Rattle.accept.specs.Checks.{verdict}
 use Rattle.accept.specs.Rules.{functionCount, rowCount, rowStartAt}
+use Rattle.accept.specs.computed.Checks.{verdict}
 use Rattle.accept.specs.declared.verdict.Verdict.the-variants.{Accepted}
 use Rattle.accept.proofs.AcceptedLaws.{accepted-laws}
-use Rattle.lookup.specs.Answers.{withRow, withCover, outcome, outcomeNumber}
 use Rattle.lookup.specs.Cases.{Covers, NoneCovers, OnlyCovers, SomeTwoCover, LowestTwo, LastAtMost, NoneAtMost, OffsetIs, rowOfFunction, FoundCase, NoRowCase, Case}
-use Rattle.lookup.specs.Halving.{noFunction}
-use Rattle.lookup.specs.Rows.{offsetWithin, lastRow, rowFor}
+use Rattle.lookup.specs.Halving.{emptyFunction}
+use Rattle.lookup.specs.Numbers.{outcomeNumber}
+use Rattle.lookup.specs.computed.Answers.{withRow, withCover, outcome}
+use Rattle.lookup.specs.computed.Rows.{offsetWithin, lastRow, rowFor}
 use Rattle.lookup.specs.declared.answer.Outcome.{Outcome}
 use Rattle.lookup.specs.declared.answer.Outcome.the-variants.{Found, Unsound, NoFunction, Dispute, NoRow}
 use Rattle.lookup.specs.declared.rows.Scan.{Scan}
@@ -34,9 +35,9 @@ use Rattle.lookup.proofs.OffsetWithinLaws.{offset-is, offset-unique}
 
 -- ---- which functions cover, by index and by place in the list
 
-pub functions-at : (s : List ℕ) (i : ℕ) → i < functionCount s → getD (functionsOf s) i noFunction ≡ functionIn s i
+pub functions-at : (s : List ℕ) (i : ℕ) → i < functionCount s → getD (functionsOf s) i emptyFunction ≡ functionIn s i
 unfolding functionCount
-functions-at s i lt = functions-get s i noFunction lt
+functions-at s i lt = functions-get s i emptyFunction lt
 
 pub functions-count : (s : List ℕ) → length (functionsOf s) ≡ functionCount s
 unfolding functionCount

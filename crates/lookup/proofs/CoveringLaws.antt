@@ -17,8 +17,8 @@ use borrow.Author.Tests.{ltb-true, ltb-false}
 use Rattle.section.specs.Meaning.{Function}
 use Rattle.accept.proofs.Decides.{Shows, both}
 use Rattle.accept.proofs.InOrder.{in-turn}
-use Rattle.lookup.specs.Covering.{covers, coveringFrom, covering, coverOf}
-use Rattle.lookup.specs.Halving.{noFunction}
+use Rattle.lookup.specs.Halving.{emptyFunction}
+use Rattle.lookup.specs.computed.Covering.{covers, coveringFrom, covering, coverOf}
 use Rattle.lookup.specs.declared.search.Cover.the-variants.{Nobody, One, Two}
 
 -- ---- tests
@@ -54,7 +54,7 @@ covers-shows d f = both (le-shows (f .start) d) (lt-shows d (f .start +ℤ pos (
 
 -- whether the function with index k covers
 abbrev pub coversAt : ℤ → List Function → ℕ → Bool
-coversAt d fs k = covers d (getD fs k noFunction)
+coversAt d fs k = covers d (getD fs k emptyFunction)
 
 abbrev pub NoneAt : ℤ → List Function → Type 0
 NoneAt d fs = (k : ℕ) → k < length fs → coversAt d fs k ≡ false
@@ -102,7 +102,7 @@ module _ (d : ℤ) (fs : List Function) where
   none-cover none = ap coverOf (none-from d 0 fs none)
 
   covers-after : (i k : ℕ) → coversAt d (drop (suc i) fs) k ≡ coversAt d fs (suc i + k)
-  covers-after i k = ap (covers d) (getD-drop (suc i) fs k noFunction)
+  covers-after i k = ap (covers d) (getD-drop (suc i) fs k emptyFunction)
 
   -- i is the only one below j that covers: none of the others does, the first index is i, and none after it does
   module _ (i j : ℕ) (less : i < j) (only : (k : ℕ) → k < j → coversAt d fs k ≡ true → k ≡ i) where

@@ -6,14 +6,15 @@ use Prim.Native.Nat.{ℕ, _-_, _<_}
 use native.Mathlib.Omega.{arith}
 use Rattle.section.specs.Entry.{typeOf}
 use Rattle.section.specs.Meaning.{listed, rowIn}
-use Rattle.section.specs.Row.{rowPlace, rowStart, rowOf, Readable}
+use Rattle.section.specs.Row.{rowPlace, rowStart, rowOf}
+use Rattle.section.specs.inner.Reading.{Readable}
 use Rattle.section.specs.declared.entry.Entry.{Entry}
 use Rattle.section.specs.declared.shape.Shape.{Shape}
-use Rattle.accept.specs.Checks.{entryFault}
+use Rattle.accept.specs.computed.Checks.{entryFault}
 use Rattle.accept.specs.declared.verdict.Fault.the-variants.{Sound}
 use Rattle.accept.proofs.RowLaws.{entry-readable, entry-rising}
-use Rattle.lookup.specs.Rows.{lastRow}
-use Rattle.lookup.specs.Search.{stopOf}
+use Rattle.lookup.specs.computed.Rows.{lastRow}
+use Rattle.lookup.specs.inner.Search.{stopOf}
 use Rattle.lookup.specs.declared.rows.Scan.the-variants.{Missed, Hit}
 use Rattle.lookup.specs.declared.rows.Stop.{Stop}
 use Rattle.lookup.proofs.LastRowLaws.{leads, leading-none, leading-last}

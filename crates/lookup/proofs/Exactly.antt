@@ -7,20 +7,21 @@ use mathlib.Core.List.{List}
 use mathlib.Core.Logic.{_↔_}
 use Prim.Native.Nat.{ℕ, _+_, _^_, _≤_, _<_}
 use lib.IntN.{ℤ}
-use Rattle.numbers.specs.Held.{distance}
+use Rattle.numbers.specs.Start.{distance}
 use Rattle.section.specs.Header.{layoutOf}
 use Rattle.section.specs.Meaning.{functionsOf}
 use Rattle.section.specs.declared.row.Row.{Row}
-use Rattle.accept.specs.Checks.{verdict}
 use Rattle.accept.specs.Rules.{functionCount}
+use Rattle.accept.specs.computed.Checks.{verdict}
 use Rattle.accept.specs.declared.verdict.Verdict.{Verdict}
 use Rattle.accept.specs.declared.verdict.Verdict.the-variants.{Accepted, Refused}
 use Rattle.accept.proofs.AcceptedLaws.{accepted-laws}
-use Rattle.lookup.specs.Answers.{outcome, answer, answerOf, afterCheck, lookupOf, outcomeNumber}
 use Rattle.lookup.specs.Cases.{NoneCovers, SomeTwoCover, LowestTwo, FoundCase, NoRowCase, Case}
-use Rattle.lookup.specs.Covering.{covering, coverOf}
 use Rattle.lookup.specs.Halving.{landing, compared}
-use Rattle.lookup.specs.Search.{coverBy}
+use Rattle.lookup.specs.Numbers.{outcomeNumber}
+use Rattle.lookup.specs.computed.Answers.{outcome, answer, answerOf, answerAfter, lookupOf}
+use Rattle.lookup.specs.computed.Covering.{covering, coverOf}
+use Rattle.lookup.specs.inner.Search.{coverBy}
 use Rattle.lookup.specs.declared.answer.Outcome.{Outcome}
 use Rattle.lookup.specs.declared.answer.Outcome.the-variants.{Found, Unsound, NoFunction, Dispute, NoRow}
 use Rattle.lookup.proofs.CaseLaws.{functions-count, outcome-exactly-when, Reason, number-tells, lowest-two, two-unsorted}
@@ -35,7 +36,7 @@ module _ (s : List ℕ) (accepted : verdict s ≡ Accepted) (address pc : ℕ) w
   d = distance address pc
 
   outcome-is : lookupOf s address pc .outcome ≡ outcome d (functionsOf s)
-  unfolding lookupOf afterCheck answerOf answer
+  unfolding lookupOf answerAfter answerOf answer
   outcome-is = rw accepted
 
   -- every outcome at once; the theorems below are its cases
@@ -100,7 +101,7 @@ module _ (s : List ℕ) (accepted : verdict s ≡ Accepted) (address pc : ℕ) w
   -- ---- "The answer carries the number of entries compared. .. Answers 21 to 23 carry the count too."
 
   count-is : lookupOf s address pc .compared ≡ compared (layoutOf s .sorted) d (functionsOf s)
-  unfolding lookupOf afterCheck answerOf answer
+  unfolding lookupOf answerAfter answerOf answer
   count-is = rw accepted
 
   -- "Unsorted: n."
@@ -134,7 +135,7 @@ module _ (s : List ℕ) (accepted : verdict s ≡ Accepted) (address pc : ℕ) w
 -- "A lookup first makes the section checks, 1 to 15."
 pub unsound-exactly-when : (s : List ℕ) (address pc number index : ℕ)
     → (lookupOf s address pc .outcome ≡ Unsound number index) ↔ (verdict s ≡ Refused number index)
-unfolding lookupOf afterCheck
+unfolding lookupOf answerAfter
 unsound-exactly-when s address pc number index = (by (verdict s) refl, λ e. rw e)
   where
     by : (v : Verdict) → verdict s ≡ v → lookupOf s address pc .outcome ≡ Unsound number index → verdict s ≡ Refused number index
@@ -143,5 +144,5 @@ unsound-exactly-when s address pc number index = (by (verdict s) refl, λ e. rw 
 
 -- "Section refusals carry 0."
 pub count-refused : (s : List ℕ) (address pc number index : ℕ) → verdict s ≡ Refused number index → lookupOf s address pc .compared ≡ 0
-unfolding lookupOf afterCheck
+unfolding lookupOf answerAfter
 count-refused s address pc number index e = rw e

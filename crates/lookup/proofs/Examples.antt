@@ -9,22 +9,23 @@ use lib.Bits.{bitAnd}
 use lib.IntN.{ℤ, pos, _-ℤ_}
 use lib.ListN.{set}
 use lib.Signed.{leZ}
-use Rattle.numbers.specs.Held.{natural}
 use Rattle.numbers.specs.Signed.{signedOf}
+use Rattle.numbers.specs.inner.Held.{natural}
 use Rattle.section.specs.Header.{layoutOf}
 use Rattle.section.specs.Meaning.{Block, plain, repeated, Function, entryIn, functionIn, functionsOf}
 use Rattle.section.specs.SectionS.{sectionS, overlappingS, unsortedS, atEntry, withFrame}
 use Rattle.section.specs.declared.row.Row.{Row}
-use Rattle.lookup.specs.Answers.{withCover, outcome, lookupOf, outcomeNumber}
-use Rattle.lookup.specs.Covering.{covering}
 use Rattle.lookup.specs.Halving.{halve}
-use Rattle.lookup.specs.Opened.{lookupOpened}
-use Rattle.lookup.specs.Rows.{inBlock, lastRow, rowFor}
+use Rattle.lookup.specs.Numbers.{outcomeNumber}
+use Rattle.lookup.specs.computed.Answers.{withCover, outcome, lookupOf}
+use Rattle.lookup.specs.computed.Covering.{covering}
+use Rattle.lookup.specs.computed.Rows.{inBlock, lastRow, rowFor}
+use Rattle.lookup.specs.inner.Opened.{lookupOpened}
 use Rattle.lookup.specs.declared.answer.Outcome.the-variants.{Found, Unsound, NoFunction, Dispute, NoRow}
+use Rattle.lookup.specs.declared.rows.Scan.{Scan}
 use Rattle.lookup.specs.declared.search.Cover.{Cover}
 use Rattle.lookup.specs.declared.search.Cover.the-variants.{Nobody, One}
 use Rattle.lookup.specs.declared.search.Landing.{Landing}
-use Rattle.lookup.specs.declared.rows.Scan.{Scan}
 
 -- ---- "Loaded at 0x400000"
 

@@ -8,22 +8,22 @@ use native.Mathlib.Omega.{arith}
 use lib.IntN.{ℤ}
 use lib.ListN.{length}
 use lib.Signed.{leZ}
-use Rattle.numbers.specs.Held.{Near}
+use Rattle.numbers.specs.inner.Held.{Near}
 use Rattle.section.specs.Header.{layoutOf}
 use Rattle.section.specs.Meaning.{functionStart, functionIn, functionsOf}
-use Rattle.section.proofs.ListedLaws.{functions-length, functions-get}
 use Rattle.section.specs.declared.header.Layout.{Layout}
+use Rattle.section.proofs.ListedLaws.{functions-length, functions-get}
 use Rattle.accept.specs.Rules.{functionCount}
 use Rattle.accept.proofs.AcceptedLaws.{few-functions}
-use Rattle.lookup.specs.Halving.{halve, noFunction, startsAtMost, landing}
-use Rattle.lookup.specs.Inner.{HeaderOf}
+use Rattle.lookup.specs.Halving.{halve, emptyFunction, startsAtMost, landing}
+use Rattle.lookup.specs.inner.Requires.{HeaderOf}
 use Rattle.lookup.proofs.HalvingLaws.{halve-up, halve-down, halve-stop}
 use Rattle.lookup.proofs.TableLaws.{header-obeys}
 
 -- the start of function i in the list of functions
 starts-in : (s : List ℕ) (z : ℤ) (i : ℕ) → i < layoutOf s .functions → startsAtMost z (functionsOf s) i ≡ leZ (functionStart s i) z
 unfolding startsAtMost functionIn
-starts-in s z i lt = ap (λ f. leZ (f .start) z) (functions-get s i noFunction lt)
+starts-in s z i lt = ap (λ f. leZ (f .start) z) (functions-get s i emptyFunction lt)
 
 -- the halving loop at low, high and compared, of the n functions of s
 pub record Halved (s : List ℕ) (n d low high compared : ℕ) : Type 0 where

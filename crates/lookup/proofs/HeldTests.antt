@@ -8,9 +8,9 @@ use lib.Dec.{leb}
 use lib.IntN.{ℤ, pos, _+ℤ_}
 use lib.Signed.{leZ, ltZ}
 use borrow.Author.Tests.{leb-true, leb-false}
-use Rattle.numbers.specs.Held.{Held, Near}
+use Rattle.numbers.specs.inner.Held.{Held, Near}
 use Rattle.numbers.proofs.HeldLaws.{from-start, before-start, before-end, from-end}
-use Rattle.lookup.specs.Search.{pastStart}
+use Rattle.lookup.specs.inner.Search.{pastStart}
 use Rattle.lookup.proofs.CoveringLaws.{by-value}
 
 pub past-from : (h n : ℕ) → leb h n ≡ true → pastStart h n ≡ n - h

@@ -10,9 +10,9 @@ use lib.ListN.{getD}
 use Rattle.section.specs.Header.{layoutOf}
 use Rattle.section.specs.Meaning.{functionIn, functionsOf}
 use Rattle.section.proofs.ListedLaws.{functions-get}
-use Rattle.lookup.specs.Covering.{covers}
-use Rattle.lookup.specs.Halving.{noFunction}
-use Rattle.lookup.specs.Search.{landedOn}
+use Rattle.lookup.specs.Halving.{emptyFunction}
+use Rattle.lookup.specs.computed.Covering.{covers}
+use Rattle.lookup.specs.inner.Search.{landedOn}
 use Rattle.lookup.specs.declared.search.Cover.the-variants.{Nobody, One}
 
 pub landed-nowhere : (s : List ℕ) (z : ℤ) (low : ℕ) → low ≡ 0 → landedOn z (functionsOf s) low ≡ Nobody
@@ -23,8 +23,8 @@ module _ (s : List ℕ) (z : ℤ) (low : ℕ) (above : 0 < low) (within : low �
   before-low : landedOn z (functionsOf s) low ≡ landedOn z (functionsOf s) (suc (low - 1))
   before-low = ap (landedOn z (functionsOf s)) (omega arith)
 
-  there : {t : Bool} → covers z (functionIn s (low - 1)) ≡ t → covers z (getD (functionsOf s) (low - 1) noFunction) ≡ t
-  there e = ap (covers z) (functions-get s (low - 1) noFunction (omega arith)) ∙ e
+  there : {t : Bool} → covers z (functionIn s (low - 1)) ≡ t → covers z (getD (functionsOf s) (low - 1) emptyFunction) ≡ t
+  there e = ap (covers z) (functions-get s (low - 1) emptyFunction (omega arith)) ∙ e
 
   pub landed-inside : covers z (functionIn s (low - 1)) ≡ true → landedOn z (functionsOf s) low ≡ One (low - 1)
   unfolding landedOn

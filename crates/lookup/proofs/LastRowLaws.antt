@@ -11,8 +11,8 @@ use borrow.Author.Tests.{le-leb, lt-leb}
 use Rattle.section.specs.Meaning.{listed}
 use Rattle.section.specs.declared.row.Row.{Row}
 use Rattle.accept.proofs.Decides.{not-below, by-test}
-use Rattle.lookup.specs.Rows.{orElse, lastRow}
-use Rattle.lookup.specs.Search.{leading}
+use Rattle.lookup.specs.computed.Rows.{orElse, lastRow}
+use Rattle.lookup.specs.inner.Search.{leading}
 use Rattle.lookup.specs.declared.rows.Scan.the-variants.{Missed, Hit}
 
 -- ---- one more row in front

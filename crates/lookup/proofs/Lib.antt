@@ -9,6 +9,7 @@ pub mod HeldTests
 pub mod LandedLaws
 pub mod LastRowLaws
 pub mod LookLaws
+pub mod NumberLaws
 pub mod OffsetWithinLaws
 pub mod PassedLaws
 pub mod ScanLaws

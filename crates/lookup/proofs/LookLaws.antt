@@ -9,20 +9,20 @@ use lib.Dec.{leb, ltb}
 use lib.IntN.{ℤ, pos, _+ℤ_}
 use lib.Signed.{leZ, ltZ}
 use borrow.Author.Tests.{leb-true, leb-false, ltb-true, ltb-false}
-use Rattle.numbers.specs.Held.{natural, Held, Near}
+use Rattle.numbers.specs.inner.Held.{natural, Held, Near}
 use Rattle.numbers.proofs.HeldLaws.{from-start, before-start, from-end, offset-in}
 use Rattle.section.specs.Meaning.{Function, entryIn, blockOf, functionStart, functionIn, functionsOf, areaOf, shapeOf}
 use Rattle.section.specs.declared.header.Layout.{Layout}
 use Rattle.section.proofs.ListedLaws.{functions-length, functions-get}
-use Rattle.accept.specs.Checks.{entryFault}
 use Rattle.accept.specs.Rules.{functionCount}
+use Rattle.accept.specs.computed.Checks.{entryFault}
 use Rattle.accept.specs.declared.verdict.Fault.the-variants.{Sound}
 use Rattle.accept.proofs.AcceptedLaws.{accepted-laws}
 use Rattle.accept.proofs.Exactly.{header-exactly-when}
-use Rattle.lookup.specs.Covering.{covers, covering, coverOf}
-use Rattle.lookup.specs.Halving.{noFunction}
-use Rattle.lookup.specs.Rows.{inBlock, offsetWithin}
-use Rattle.lookup.specs.Inner.{HeaderOf, AcceptedOf, RowAsked}
+use Rattle.lookup.specs.Halving.{emptyFunction}
+use Rattle.lookup.specs.computed.Covering.{covers, covering, coverOf}
+use Rattle.lookup.specs.computed.Rows.{inBlock, offsetWithin}
+use Rattle.lookup.specs.inner.Requires.{HeaderOf, AcceptedOf, RowAsked}
 use Rattle.lookup.specs.declared.search.Cover.{Cover}
 use Rattle.lookup.specs.declared.search.Cover.the-variants.{Nobody, One, Two}
 use Rattle.lookup.proofs.CoveringLaws.{by-value, OnlyAt, none-cover, one-covers, two-cover, Coverage, no-one, just-one, two-or-more, cover-cases}
@@ -65,7 +65,7 @@ row-asked {s} {layout} {d} i section e =
     record {
       section = section;
       inside = rw (section .layout-is) listed;
-      within = rw (functions-get s i noFunction listed) at (only .1);
+      within = rw (functions-get s i emptyFunction listed) at (only .1);
     }
 
 -- ---- d within that function, as it is held

@@ -10,16 +10,16 @@ use native.Mathlib.Omega.{arith}
 use lib.IntN.{ℤ, pos, negsuc, _+ℤ_, _-ℤ_, +ℤ-comm, +ℤ-negℤ-cancel, -ℤ-+ℤ-cancel}
 use lib.Signed.{_≤ℤ_, _<ℤ_, ltZ-yes, clashℤ}
 use borrow.Author.Tests.{lt-ltb}
-use Rattle.numbers.specs.Held.{natural}
+use Rattle.numbers.specs.inner.Held.{natural}
 use Rattle.numbers.proofs.DiffLaws.{Diff, diff-pos, diff-add, diff-lt}
 use Rattle.section.specs.Entry.{repeats}
 use Rattle.section.specs.Meaning.{Block, plain, repeated, blockOf, entryIn, functionStart, functionIn}
 use Rattle.section.specs.declared.entry.Entry.{Entry}
-use Rattle.accept.specs.Checks.{verdict}
+use Rattle.accept.specs.computed.Checks.{verdict}
 use Rattle.accept.specs.declared.verdict.Verdict.the-variants.{Accepted}
 use Rattle.accept.proofs.Exactly.{accepted-exactly-when}
 use Rattle.lookup.specs.Cases.{Covers, Leaves, OffsetIs}
-use Rattle.lookup.specs.Rows.{inBlock, offsetWithin}
+use Rattle.lookup.specs.computed.Rows.{inBlock, offsetWithin}
 use Rattle.lookup.proofs.CoveringLaws.{by-value}
 
 -- ---- d minus the start

@@ -6,7 +6,7 @@ use Prim.Native.Nat.{ℕ, suc, _+_, _-_, _≤_, _<_}
 use native.Mathlib.Omega.{arith}
 use Rattle.numbers.specs.declared.field.Order.{Order}
 use Rattle.section.specs.Row.{rowLength, rowPlace, rowStart}
-use Rattle.lookup.specs.Search.{leading, stopOf}
+use Rattle.lookup.specs.inner.Search.{leading, stopOf}
 use Rattle.lookup.proofs.LastRowLaws.{leading-on, leading-stop}
 
 module _ (area : List ℕ) (order : Order) (code first count o : ℕ) where

@@ -13,21 +13,21 @@ use lib.Signed.{_≤ℤ_, clashℤ}
 use Rattle.section.specs.Header.{layoutOf}
 use Rattle.section.specs.Meaning.{Function, functionIn, functionsOf}
 use Rattle.section.proofs.ListedLaws.{functions-length, functions-get}
-use Rattle.accept.specs.Checks.{verdict}
 use Rattle.accept.specs.Rules.{functionCount}
+use Rattle.accept.specs.computed.Checks.{verdict}
 use Rattle.accept.specs.declared.verdict.Verdict.the-variants.{Accepted}
 use Rattle.accept.proofs.AcceptedLaws.{accepted-laws, pass-on, no-less}
 use Rattle.accept.proofs.Decides.{Shows}
-use Rattle.lookup.specs.Covering.{covering, coverOf}
-use Rattle.lookup.specs.Halving.{noFunction, startsAtMost, landing}
-use Rattle.lookup.specs.Search.{landedOn, coverBy}
+use Rattle.lookup.specs.Halving.{emptyFunction, startsAtMost, landing}
+use Rattle.lookup.specs.computed.Covering.{covering, coverOf}
+use Rattle.lookup.specs.inner.Search.{landedOn, coverBy}
 use Rattle.lookup.proofs.CoveringLaws.{by-value, unless-true, is-true, le-shows, covers-shows, coversAt, none-cover, one-covers}
 use Rattle.lookup.proofs.HalvingLaws.{Lands, halve-lands}
 
 -- ---- functions that lie apart
 
 abbrev functionAt : List Function → ℕ → Function
-functionAt fs i = getD fs i noFunction
+functionAt fs i = getD fs i emptyFunction
 
 abbrev ends : Function → ℤ
 ends f = f .start +ℤ pos (f .size)
@@ -83,7 +83,7 @@ functions-apart : (s : List ℕ) → verdict s ≡ Accepted → layoutOf s .sort
 unfolding functionIn functionCount
 functions-apart s e set i j less lt =
     let inside : j < functionCount s = rw functions-length at lt in
-    rw (functions-get s i noFunction (omega arith), functions-get s j noFunction inside) (accepted-laws s e .apart set i j less inside)
+    rw (functions-get s i emptyFunction (omega arith), functions-get s j emptyFunction inside) (accepted-laws s e .apart set i j less inside)
 
 -- the halving of a sorted section, and the scan of another, find the function that covers
 pub search-finds-covering : (s : List ℕ) → verdict s ≡ Accepted → (d : ℤ)

@@ -6,17 +6,17 @@ use Prim.Native.Nat.{ℕ, _+_, _*_, _≤_, _<_}
 use native.Mathlib.Omega.{arith}
 use lib.ListN.{length}
 use Rattle.numbers.specs.Field.{fieldOf}
-use Rattle.numbers.specs.Held.{startAt, Held}
+use Rattle.numbers.specs.Start.{startAt}
+use Rattle.numbers.specs.inner.Held.{Held}
 use Rattle.numbers.specs.declared.field.Order.{Order}
-use Rattle.section.specs.Entry.{entryOf, positionOf, startOf}
+use Rattle.section.specs.Entry.{entryOf, positionAt, startOf}
 use Rattle.section.specs.Meaning.{entryIn, functionStart}
 use Rattle.section.specs.declared.entry.Entry.{Entry}
 use Rattle.section.specs.declared.header.Layout.{Layout}
 use Rattle.accept.specs.Rules.{HeaderObeys, functionCount}
 use Rattle.accept.proofs.AcceptedLaws.{area-inside, entry-inside}
 use Rattle.accept.proofs.Exactly.{header-exactly-when}
-use Rattle.lookup.specs.Inner.{HeaderOf, TableOf}
-use Rattle.lookup.specs.Search.{positionAt}
+use Rattle.lookup.specs.inner.Requires.{HeaderOf, TableOf}
 
 -- the header obeys its rules
 pub header-obeys : {s : List ℕ} {layout : Layout} → HeaderOf s layout → HeaderObeys s
@@ -42,7 +42,7 @@ pub field-held : {s : List ℕ} {layout : Layout} {order : Order} → TableOf s 
     → position ≡ positionAt (layout .relative) (layout .table + 20 * i)
     → Held (startAt field position) h
     → Held (functionStart s i) h
-unfolding startOf positionOf positionAt entryIn entryOf
+unfolding startOf positionAt entryIn entryOf
 field-held table i field-is position-is held = rw (field-is, position-is, table .order-is, table .header .layout-is) at held
 
 -- the start of what was read as entry i is the start of function i

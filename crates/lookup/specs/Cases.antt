@@ -7,7 +7,9 @@ use lib.IntN.{ℤ, pos, _+ℤ_}
 use lib.Signed.{_≤ℤ_, _<ℤ_}
 use Rattle.section.specs.Meaning.{Block, plain, repeated, areaOf, shapeOf, entryIn, blockOf, functionStart, functionEnd, rowIn}
 use Rattle.section.specs.declared.row.Row.{Row}
-use Rattle.accept.specs.Rules.{functionCount, rowCount, rowStartAt}
+use Rattle.accept.specs.Given.{BrokenFirst}
+use Rattle.accept.specs.Rules.{Obeys, functionCount, rowCount, rowStartAt}
+use Rattle.lookup.specs.Numbers.{Unfound, noFunction, dispute, noRow, LookupCause, unsound, unfound}
 use Rattle.lookup.specs.declared.answer.Outcome.{Outcome}
 use Rattle.lookup.specs.declared.answer.Outcome.the-variants.{Found, Unsound, NoFunction, Dispute, NoRow}
 
@@ -88,3 +90,16 @@ Case s d (Unsound number index) = ⊥
 Case s d NoFunction = NoneCovers s d
 Case s d (Dispute i j) = LowestTwo s d i j
 Case s d (NoRow i) = NoRowCase s d i
+
+-- ---- every number
+
+-- what holds of an accepted section and d where nothing is found for this reason
+abbrev pub UnfoundCase : List ℕ → ℤ → Unfound → Type 0
+UnfoundCase s d noFunction = NoneCovers s d
+UnfoundCase s d dispute = SomeTwoCover s d
+UnfoundCase s d noRow = (i : ℕ) × NoRowCase s d i
+
+-- what holds where a lookup gives the number of this cause
+abbrev pub OnLookup : List ℕ → ℤ → LookupCause → Type 0
+OnLookup s d (unsound rule) = BrokenFirst s rule
+OnLookup s d (unfound why) = Obeys s × UnfoundCase s d why

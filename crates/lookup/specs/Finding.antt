@@ -1,9 +1,7 @@
 -- What a lookup finds without its indexes: the row with its number in the function, or the refusal's number. A step and a trace
 -- know a section through this alone, and it is what does not depend on the order in which a section lists its functions.
 use Prim.Native.Nat.{ℕ}
-use mathlib.Core.List.{List}
 use Rattle.section.specs.declared.row.Row.{Row}
-use Rattle.lookup.specs.Answers.{answerOf}
 use Rattle.lookup.specs.declared.answer.Outcome.{Outcome}
 use Rattle.lookup.specs.declared.answer.Outcome.the-variants.{Found, Unsound, NoFunction, Dispute, NoRow}
 
@@ -17,7 +15,3 @@ findingOf (Unsound number index) = refuses number
 findingOf NoFunction = refuses 21
 findingOf (Dispute first second) = refuses 22
 findingOf (NoRow function) = refuses 23
-
--- the finding at a PC in a section that was accepted
-unfoldable pub lookIn : List ℕ → ℕ → ℕ → Finding
-lookIn s address pc = findingOf (answerOf s address pc .outcome)

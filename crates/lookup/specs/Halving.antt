@@ -24,12 +24,12 @@ halve atMost (suc turns) low high compared =
     ]
 
 -- what stands past the end of a list of functions: one that covers nothing
-unfoldable pub noFunction : Function
-noFunction = record { start = pos 0; size = 0; block = plain; rows = [] }
+unfoldable pub emptyFunction : Function
+emptyFunction = record { start = pos 0; size = 0; block = plain; rows = [] }
 
 -- "start at most d", of the function with this index
 unfoldable pub startsAtMost : ℤ → List Function → ℕ → Bool
-startsAtMost d functions i = leZ (getD functions i noFunction .start) d
+startsAtMost d functions i = leZ (getD functions i emptyFunction .start) d
 
 -- "the halving rule over low = 0, high = n"
 unfoldable pub landing : ℤ → List Function → Landing

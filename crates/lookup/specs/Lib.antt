@@ -1,9 +1,6 @@
-pub mod Answers
 pub mod Cases
-pub mod Covering
 pub mod Finding
 pub mod Halving
-pub mod Inner
-pub mod Opened
-pub mod Rows
-pub mod Search
+pub mod Numbers
+pub mod computed
+pub mod inner

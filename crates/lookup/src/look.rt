@@ -19,13 +19,13 @@ use section::shape::shape_of;
 ghost use mathlib.Core.Bool.{true};
 ghost use mathlib.Core.Path.{_≡_};
 ghost use Prim.Native.Nat.{_<_, _%_};
-ghost use Rattle.numbers.specs.Held.{distance};
+ghost use Rattle.numbers.specs.Start.{distance};
 ghost use Rattle.section.specs.Entry.{repeats};
 ghost use Rattle.section.specs.Meaning.{blockOf, functionIn, functionsOf};
-ghost use Rattle.lookup.specs.Answers.{withRow, withCover, answerOf, lookupOf};
-ghost use Rattle.lookup.specs.Covering.{covering, coverOf};
-ghost use Rattle.lookup.specs.Rows.{inBlock, rowFor};
-ghost use Rattle.lookup.specs.Inner.{AcceptedOf, RowAsked};
+ghost use Rattle.lookup.specs.computed.Answers.{withRow, withCover, answerOf, lookupOf};
+ghost use Rattle.lookup.specs.computed.Covering.{covering, coverOf};
+ghost use Rattle.lookup.specs.computed.Rows.{inBlock, rowFor};
+ghost use Rattle.lookup.specs.inner.Requires.{AcceptedOf, RowAsked};
 
 // What remains of a distance by a repeat size. Source 001 writes a mask here; document 01's remainder rule stands.
 fn left_over(past: u64, size: u8) -> u64

@@ -11,11 +11,12 @@ use section::shape::Shape;
 ghost use mathlib.Core.Path.{_≡_};
 ghost use Prim.Native.Nat.{ℕ, _+_, _≤_, _<_};
 ghost use Rattle.section.specs.Meaning.{listed, rowIn};
-ghost use Rattle.section.specs.Row.{rowPlace, Readable};
-ghost use Rattle.accept.specs.Checks.{entryFault};
+ghost use Rattle.section.specs.Row.{rowPlace};
+ghost use Rattle.section.specs.inner.Reading.{Readable};
+ghost use Rattle.accept.specs.computed.Checks.{entryFault};
 ghost use Rattle.accept.specs.declared.verdict.Fault.the-variants.{Sound};
-ghost use Rattle.lookup.specs.Rows.{lastRow};
-ghost use Rattle.lookup.specs.Search.{stopOf};
+ghost use Rattle.lookup.specs.computed.Rows.{lastRow};
+ghost use Rattle.lookup.specs.inner.Search.{stopOf};
 
 // The last row at or below, with its number in the function, or that there is none.
 pub enum Scan {

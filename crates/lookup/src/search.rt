@@ -11,11 +11,13 @@ ghost use mathlib.Core.Path.{_≡_};
 ghost use Prim.Native.Nat.{_+_, _-_, _^_, _≤_, _<_};
 ghost use lib.IntN.{ℤ, pos, _+ℤ_};
 ghost use lib.Signed.{leZ, ltZ};
-ghost use Rattle.lookup.specs.Covering.{covers, covering, coverOf};
+ghost use Rattle.lookup.specs.computed.Covering.{covers, covering, coverOf};
 ghost use Rattle.lookup.specs.Halving.{landing};
-ghost use Rattle.lookup.specs.Inner.{TableOf, HeaderOf};
-ghost use Rattle.lookup.specs.Search.{pastStart, firstWhere, positionAt, landedOn, searchOf};
-ghost use Rattle.numbers.specs.Held.{Held, Near, distance};
+ghost use Rattle.lookup.specs.inner.Requires.{TableOf, HeaderOf};
+ghost use Rattle.lookup.specs.inner.Search.{pastStart, firstWhere, landedOn, searchOf};
+ghost use Rattle.numbers.specs.inner.Held.{Held, Near};
+ghost use Rattle.numbers.specs.Start.{distance};
+ghost use Rattle.section.specs.Entry.{positionAt};
 ghost use Rattle.section.specs.Meaning.{entryIn, functionIn, functionsOf, functionStart};
 
 // How the least field, -2^31, is held: 2^31.

@@ -6,7 +6,7 @@ use section::header::Layout;
 ghost use mathlib.Core.Path.{_≡_};
 ghost use Prim.Native.Nat.{_<_};
 ghost use Rattle.section.specs.Meaning.{entryIn};
-ghost use Rattle.lookup.specs.Inner.{TableOf};
+ghost use Rattle.lookup.specs.inner.Requires.{TableOf};
 
 // Entry i.
 pub fn entry_in(section: &[u8], layout: Layout, order: Order, i: u64) -> Entry

@@ -2,7 +2,7 @@
 use Prim.Native.Nat.{ℕ, _+_, _*_, _^_, _%_}
 use mathlib.Core.Bool.{Bool, true, false}
 use mathlib.Core.List.{List, [], _∷_}
-use Rattle.numbers.specs.Signed.{shiftOf}
+use Rattle.numbers.specs.inner.Shift.{shiftOf}
 use Rattle.numbers.specs.declared.offset.Offset.{Offset}
 use Rattle.numbers.specs.declared.offset.Shift.{Shift}
 use Rattle.numbers.specs.declared.offset.Shift.the-variants.{Up, Down}
@@ -11,10 +11,10 @@ use Rattle.section.specs.declared.row.Base.the-variants.{Fp, Sp}
 use Rattle.section.specs.declared.row.Place.{Place}
 use Rattle.section.specs.declared.row.Place.the-variants.{Register, AtOffset}
 use Rattle.section.specs.declared.row.Row.{Row}
-use Rattle.accept.specs.Checks.{verdict}
+use Rattle.accept.specs.computed.Checks.{verdict}
 use Rattle.accept.specs.declared.verdict.Verdict.{Verdict}
 use Rattle.accept.specs.declared.verdict.Verdict.the-variants.{Accepted, Refused}
-use Rattle.lookup.specs.Answers.{answerOf}
+use Rattle.lookup.specs.computed.Answers.{answerOf}
 use Rattle.lookup.specs.declared.answer.Answer.{Answer}
 use Rattle.lookup.specs.declared.answer.Outcome.{Outcome}
 use Rattle.lookup.specs.declared.answer.Outcome.the-variants.{Found, Unsound, NoFunction, Dispute, NoRow}

@@ -15,7 +15,7 @@ use section::row::Place;
 use section::row::Row;
 ghost use mathlib.Core.Path.{_≡_};
 ghost use Prim.Native.Nat.{_<_, _*_, _^_};
-ghost use Rattle.lookup.specs.Inner.{AcceptedOf};
+ghost use Rattle.lookup.specs.inner.Requires.{AcceptedOf};
 ghost use Rattle.measure.specs.Digest.{low, magnitude, placeWeight, baseWeight, flagWeight, rowWeight, outcomeWeight, weight, digestFrom, measuredOf};
 
 #[repr(C)]

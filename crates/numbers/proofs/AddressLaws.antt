@@ -9,12 +9,12 @@ use lib.ListN.{length}
 use lib.IntN.{ℤ, pos, negsuc}
 use borrow.Author.Tests.{le-ltb, lt-ltb, le-leb, lt-leb}
 use Rattle.numbers.specs.Field.{fieldOf}
-use Rattle.numbers.specs.Signed.{shiftOf}
-use Rattle.numbers.specs.Address.{inMemory, addressOf, windowFits, wholly, wordOf}
-use Rattle.numbers.specs.declared.field.Order.{Order}
-use Rattle.numbers.specs.declared.offset.Shift.the-variants.{Up, Down}
+use Rattle.numbers.specs.computed.Address.{inMemory, addressOf, windowFits, wholly, wordOf}
+use Rattle.numbers.specs.inner.Shift.{shiftOf}
 use Rattle.numbers.specs.declared.address.Address.the-variants.{At, Outside}
 use Rattle.numbers.specs.declared.address.Word.the-variants as word
+use Rattle.numbers.specs.declared.field.Order.{Order}
+use Rattle.numbers.specs.declared.offset.Shift.the-variants.{Up, Down}
 
 at-most : (n : ℕ) → n < 2 ^ 64 → At n ≡ inMemory (pos n)
 unfolding inMemory

@@ -5,11 +5,13 @@ use mathlib.Core.Bool.{true, false}
 use mathlib.Core.List.{List, [], _∷_}
 use Prim.Native.Nat.{ℕ, _-_, _^_}
 use lib.IntN.{pos, negsuc}
-use Rattle.numbers.specs.Address.{addressOf, windowFits, wordOf}
-use Rattle.numbers.specs.Field.{fieldOf, numberOf}
-use Rattle.numbers.specs.Held.{startAt, distance, near}
-use Rattle.numbers.specs.Opened.{numbersOpened}
+use Rattle.numbers.specs.Field.{fieldOf}
 use Rattle.numbers.specs.Signed.{signedOf}
+use Rattle.numbers.specs.Start.{startAt, distance}
+use Rattle.numbers.specs.computed.Address.{addressOf, windowFits, wordOf}
+use Rattle.numbers.specs.computed.Number.{numberOf}
+use Rattle.numbers.specs.inner.Held.{near}
+use Rattle.numbers.specs.inner.Opened.{numbersOpened}
 use Rattle.numbers.specs.declared.address.Address.the-variants as address
 use Rattle.numbers.specs.declared.address.Word.the-variants as word
 use Rattle.numbers.specs.declared.field.Number.the-variants as number-is

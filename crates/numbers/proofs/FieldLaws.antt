@@ -10,7 +10,9 @@ use lib.Dec.{lit<}
 use lib.ListN.{length, take, drop, getD, length-take, length-drop}
 use lib.Seq.{take-suc, drop-cons, getD-drop, getD-take, take-nil, take-take, drop-drop, ext-getD}
 use borrow.Author.Tests.{le-leb, lt-leb}
-use Rattle.numbers.specs.Field.{digits, numberIn, fieldOf, byteOf, digitPlace, numberOf}
+use Rattle.numbers.specs.Field.{digits, numberIn, fieldOf, byteOf}
+use Rattle.numbers.specs.computed.Number.{numberOf}
+use Rattle.numbers.specs.inner.Digits.{digitPlace}
 use Rattle.numbers.specs.declared.field.Number.the-variants.{Is, Outside, NoWidth}
 use Rattle.numbers.specs.declared.field.Order.{Order}
 use Rattle.numbers.specs.declared.field.Order.the-variants.{Little, Big}
@@ -76,17 +78,6 @@ number-is bytes at code order h i = rw (le-leb code 3 h, numberOf) (rw (le-leb (
 part-length : (bytes : List ℕ) (at width : ℕ) → at + width ≤ length bytes → length (take width (drop at bytes)) ≡ width
 part-length bytes at width h = simp (length-take, length-drop) (omega arith)
 
-drop-take : (at n : ℕ) (l : List ℕ) → drop at (take n l) ≡ take (n - at) (drop at l)
-drop-take zero n l = rw sub-zero
-drop-take (suc at) zero l = rw zero-sub
-drop-take (suc at) (suc n) [] = sym (take-nil (suc n - suc at))
-drop-take (suc at) (suc n) (x ∷ l) = rw suc-sub-suc (drop-take at n l)
-
-part-of : (bytes : List ℕ) (from n at width : ℕ) → at + width ≤ n → take width (drop at (take n (drop from bytes))) ≡ take width (drop (from + at) bytes)
-part-of bytes from n at width h =
-    let inside : width ≤ n - at = omega arith in
-    rw (drop-take, take-take, drop-drop)
-
 digits-below : (f : ℕ → ℕ) → ((j : ℕ) → f j < 256) → (n k : ℕ) → digits (valuesOf f n k) < 256 ^ n
 unfolding digits
 digits-below f h zero k = lit< tt
@@ -97,12 +88,6 @@ pub field-below : (bytes : List ℕ) → ((k : ℕ) → getD bytes k 0 < 256) �
     → fieldOf bytes at width order < 256 ^ width
 field-below bytes small at width order h =
     rw (by-digits bytes at width order h) (digits-below _ (λ j. small (digitPlace order at width j)) width 0)
-
--- a field of a part of a list is the field of the list, further on
-pub field-part : (bytes : List ℕ) (from n at width : ℕ) (order : Order) → at + width ≤ n
-    → fieldOf (take n (drop from bytes)) at width order ≡ fieldOf bytes (from + at) width order
-unfolding fieldOf
-field-part bytes from n at width order h = ap (numberIn order) (part-of bytes from n at width h)
 
 -- two lists that agree at the places of a field have the same field there
 pub field-agrees : (bytes other : List ℕ) (at width : ℕ) (order : Order) → at + width ≤ length bytes → at + width ≤ length other

@@ -9,7 +9,8 @@ use lib.IntN.{ℤ, pos, negsuc, _+ℤ_, _-ℤ_}
 use lib.Signed.{ltZ, leZ}
 use lib.Dec.{ltb}
 use borrow.Author.Tests.{ltb-true, ltb-false, le-leb, lt-leb, le-ltb, lt-ltb}
-use Rattle.numbers.specs.Held.{startAt, rank, distance, natural, raised, near, Held, Near}
+use Rattle.numbers.specs.Start.{startAt, distance}
+use Rattle.numbers.specs.inner.Held.{rank, natural, raised, near, Held, Near}
 use Rattle.numbers.proofs.DiffLaws.{Apart, Diff, diff-pos, diff-add, diff-neg, diff-same, diff-less, diff-unique, diff-le, diff-lt}
 use Rattle.numbers.proofs.SignedLaws.{signed-low, signed-high}
 

@@ -1,12 +1,8 @@
 -- Document 01, "Section bytes": all numbers are in the section's byte order. One definition, over the list, the place, the
 -- width and the order, is what every reader of a number is held to.
-use Prim.Native.Nat.{ℕ, _+_, _-_, _*_, _^_}
+use Prim.Native.Nat.{ℕ, _+_, _*_}
 use mathlib.Core.List.{List, [], _∷_, reverse}
-use mathlib.Core.Bool.{true, false}
-use lib.Dec.{leb}
-use lib.ListN.{length, take, drop}
-use Rattle.numbers.specs.declared.field.Number.{Number}
-use Rattle.numbers.specs.declared.field.Number.the-variants.{Is, Outside, NoWidth}
+use lib.ListN.{take, drop}
 use Rattle.numbers.specs.declared.field.Order.{Order}
 use Rattle.numbers.specs.declared.field.Order.the-variants.{Little, Big}
 
@@ -27,14 +23,3 @@ fieldOf bytes at width order = numberIn order (take width (drop at bytes))
 -- one byte is the same number in either order
 unfoldable pub byteOf : List ℕ → ℕ → ℕ
 byteOf bytes at = fieldOf bytes at 1 Little
-
--- the place of digit k, the least being 0, of the number of `width` bytes that begins at `at`: for the readers' own use
-unfoldable pub digitPlace : Order → ℕ → ℕ → ℕ → ℕ
-digitPlace Little at width k = at + k
-digitPlace Big at width k = at + (width - 1 - k)
-
--- a number by the code of its width, 0, 1, 2, 3 for 1, 2, 4, 8 bytes, where it is wholly inside
-unfoldable pub numberOf : List ℕ → ℕ → ℕ → Order → Number
-numberOf bytes at code order =
-    elim (leb code 3)
-    [ true ↦ elim (leb (at + 2 ^ code) (length bytes)) [ true ↦ Is (fieldOf bytes at (2 ^ code) order) | false ↦ Outside ] | false ↦ NoWidth ]

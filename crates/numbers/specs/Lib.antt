@@ -1,5 +1,5 @@
-pub mod Address
 pub mod Field
-pub mod Held
-pub mod Opened
 pub mod Signed
+pub mod Start
+pub mod computed
+pub mod inner

@@ -1,11 +1,9 @@
 -- Signed fields and offsets, over exact whole numbers. Document 01: "Reading offset byte f0 as 240" is a slip; it is -16.
-use Prim.Native.Nat.{ℕ, _+_, _^_, _/_}
+use Prim.Native.Nat.{ℕ, _^_, _/_}
 use mathlib.Core.Bool.{true, false}
 use lib.Dec.{ltb}
-use lib.IntN.{ℤ, pos, negsuc, _-ℤ_}
+use lib.IntN.{ℤ, pos, _-ℤ_}
 use Rattle.numbers.specs.declared.offset.Offset.{Offset}
-use Rattle.numbers.specs.declared.offset.Shift.{Shift}
-use Rattle.numbers.specs.declared.offset.Shift.the-variants.{Up, Down}
 
 -- the signed number that the unsigned n stands for in `width` bytes: n in the lower half, n less 256 ^ width in the upper
 unfoldable pub signedOf : ℕ → ℕ → ℤ
@@ -14,8 +12,3 @@ signedOf width n = elim (ltb n (256 ^ width / 2)) [ true ↦ pos n | false ↦ p
 -- an offset is a number of its own kind, so that it is never taken for an address
 unfoldable pub offsetOf : ℕ → ℕ → Offset
 offsetOf width n = record { by = signedOf width n }
-
--- the same offset as a way up or down, in unsigned numbers
-unfoldable pub shiftOf : ℤ → Shift
-shiftOf (pos k) = Up k
-shiftOf (negsuc k) = Down (k + 1)

@@ -5,7 +5,7 @@ use crate::offset::Offset;
 use crate::offset::Shift;
 use crate::offset::shift_of;
 ghost use mathlib.Core.Path.{_≡_};
-ghost use Rattle.numbers.specs.Address.{addressOf, windowFits, wordOf};
+ghost use Rattle.numbers.specs.computed.Address.{addressOf, windowFits, wordOf};
 
 pub enum Address {
     At(u64),

@@ -3,7 +3,9 @@
 ghost use mathlib.Core.Path.{_≡_};
 ghost use Prim.Native.Nat.{_+_, _≤_, _<_, _^_};
 ghost use lib.ListN.{length, getD};
-ghost use Rattle.numbers.specs.Field.{fieldOf, byteOf, digitPlace, numberOf};
+ghost use Rattle.numbers.specs.Field.{fieldOf, byteOf};
+ghost use Rattle.numbers.specs.inner.Digits.{digitPlace};
+ghost use Rattle.numbers.specs.computed.Number.{numberOf};
 
 pub enum Order {
     Little,

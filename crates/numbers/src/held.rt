@@ -2,7 +2,8 @@
 // below 0 and every comparison is of plain u64.
 ghost use mathlib.Core.Path.{_≡_};
 ghost use Prim.Native.Nat.{_<_, _^_};
-ghost use Rattle.numbers.specs.Held.{rank, startAt, distance, raised, near, Held};
+ghost use Rattle.numbers.specs.inner.Held.{rank, raised, near, Held};
+ghost use Rattle.numbers.specs.Start.{startAt, distance};
 
 // How far above its value a start is held: 2^32.
 const LIFT: u64 = 0x1_0000_0000;

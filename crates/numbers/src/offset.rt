@@ -5,7 +5,8 @@ ghost use mathlib.Core.Path.{_≡_};
 ghost use Prim.Native.Nat.{_+_, _≤_, _^_};
 ghost use lib.ListN.{length};
 ghost use Rattle.numbers.specs.Field.{fieldOf};
-ghost use Rattle.numbers.specs.Signed.{offsetOf, shiftOf};
+ghost use Rattle.numbers.specs.Signed.{offsetOf};
+ghost use Rattle.numbers.specs.inner.Shift.{shiftOf};
 
 pub struct Offset {
     pub by: i64,

@@ -1,7 +1,6 @@
 -- Every public function of `accept` determines its reply: two replies that its own contract allows for one input are equal.
 -- Assumes nothing.
 use mathlib.Core.Path.{refl, sym, _∙_}
-use Rattle.promises.specs.Determined.{Determined}
 use Rattle.accept.proofs.entry_check.check_entry.Kinds as check_entry-kinds
 use Rattle.accept.proofs.entry_check.check_entry.Reads as check_entry-reads
 use Rattle.accept.proofs.header_check.check_header.Kinds as check_header-kinds
@@ -10,15 +9,16 @@ use Rattle.accept.proofs.row_check.check_rows.Kinds as check_rows-kinds
 use Rattle.accept.proofs.row_check.check_rows.Reads as check_rows-reads
 use Rattle.accept.proofs.section_check.check.Kinds as check-kinds
 use Rattle.accept.proofs.section_check.check.Reads as check-reads
+use Rattle.promises.specs.Determined.{Determined}
 
-pub check_entry-determined : Determined check_entry-kinds.ps check_entry-kinds.r check_entry-reads.Post
+pub check_entry-determined : Determined check_entry-kinds.ps check_entry-kinds.r check_entry-reads.Learnt
 check_entry-determined κs a z z′ w w′ p q = (p ∙ sym q, refl)
 
-pub check_header-determined : Determined check_header-kinds.ps check_header-kinds.r check_header-reads.Post
+pub check_header-determined : Determined check_header-kinds.ps check_header-kinds.r check_header-reads.Learnt
 check_header-determined κs a z z′ w w′ p q = (p ∙ sym q, refl)
 
-pub check_rows-determined : Determined check_rows-kinds.ps check_rows-kinds.r check_rows-reads.Post
+pub check_rows-determined : Determined check_rows-kinds.ps check_rows-kinds.r check_rows-reads.Learnt
 check_rows-determined κs a z z′ w w′ p q = (p ∙ sym q, refl)
 
-pub check-determined : Determined check-kinds.ps check-kinds.r check-reads.Post
+pub check-determined : Determined check-kinds.ps check-kinds.r check-reads.Learnt
 check-determined κs a z z′ w w′ p q = (p ∙ sym q, refl)

@@ -4,35 +4,45 @@
 use mathlib.Core.Path.{_≡_, refl, sym, _∙_, ap}
 use mathlib.Core.Bool.{true}
 use mathlib.Core.List.{List, [], _∷_}
-use mathlib.Core.Logic.{⊎-elim}
-use Prim.Native.Nat.{ℕ}
+use mathlib.Core.Logic.{inl, ⊎-elim}
+use Prim.Native.Nat.{ℕ, suc, _^_}
 use native.Mathlib.Omega.{arith}
-use lib.ListN.{length, getD, take}
+use lib.ListN.{getD, set, take}
+use borrow.Author.Tests.{eq-eqb}
 use Rattle.section.specs.Header.{layoutOf}
 use Rattle.section.specs.SectionS.{sectionS, atEntry, withFrame}
 use Rattle.section.specs.declared.row.Row.{Row}
-use Rattle.accept.specs.Checks.{verdict, verdictNumber}
+use Rattle.accept.specs.Given.{rowSum, numberOfRule, verdictNumber}
+use Rattle.accept.specs.computed.Checks.{verdict}
 use Rattle.accept.specs.declared.verdict.Verdict.the-variants.{Accepted}
+use Rattle.accept.proofs.CauseLaws.{check-given}
+use Rattle.accept.proofs.Exactly.{number-of-rule}
 use Rattle.accept.proofs.FaultLaws.{accepted-or-refused}
-use Rattle.lookup.specs.Answers.{lookupOf, outcomeNumber}
+use Rattle.lookup.specs.Numbers.{noFunction, numberOfUnfound, unfound, numberOfLookupCause, outcomeNumber}
+use Rattle.lookup.specs.computed.Answers.{lookupOf}
+use Rattle.lookup.specs.inner.Opened.{lookupOpened}
 use Rattle.lookup.specs.declared.answer.Outcome.the-variants.{Found}
-use Rattle.lookup.specs.Opened.{lookupOpened}
+use Rattle.lookup.proofs.NumberLaws.{lookup-given}
+use Rattle.caller.specs.Cases.{Rule41}
+use Rattle.caller.specs.Numbers.{numberOfStepCause}
 use Rattle.caller.specs.declared.registers.Registers.{Registers}
 use Rattle.caller.specs.declared.registers.Where.{Where}
-use Rattle.trace.specs.Opened.{traceOpened}
 use Rattle.trace.specs.Cases.{noFrame}
-use Rattle.trace.specs.Trace.{walkIn, allWords, over, wordsOf, tracedAs, traced, traceOf}
-use Rattle.trace.specs.declared.answer.Ending.the-variants.{Outermost}
+use Rattle.trace.specs.Frames.{allWords, over, wordsOf, tracedAs}
+use Rattle.trace.specs.Numbers.{window, numberOfTraceCause, endingNumber}
+use Rattle.trace.specs.computed.Trace.{traced, traceOf}
+use Rattle.trace.specs.inner.Opened.{traceOpened}
+use Rattle.trace.specs.declared.answer.Ending.the-variants.{Outermost, Unsound}
 use Rattle.trace.specs.declared.answer.Frame.{Frame}
-use Rattle.promises.specs.Calls.{Calls, ours}
+use Rattle.trace.proofs.Exactly.{unsound-exactly-when}
+use Rattle.promises.specs.Calls.{Calls}
 use Rattle.promises.specs.Demand1.{Demand1}
 use Rattle.promises.specs.Demand2.{Demand2}
 use Rattle.promises.specs.Demand3.{Demand3}
-use Rattle.promises.specs.Refusals.{noFunction, numberOfCause}
 use Rattle.promises.specs.Table.{replyTo, loaded, at, stackWindow, crashed, agreed, table}
-use Rattle.promises.specs.Wrong.{RefusesEverything, OneFixedRow, Always21, MadeUpCount, WritesNothing, RepeatsFrames, InventsFrames, refusingEverything, findingOneRow, answering21, countingBy, leaving, writingNothing, repeatingFrames, inventingFrames}
-use Rattle.promises.proofs.GivenExactly.{check-given, lookup-given}
-use Rattle.promises.proofs.CauseLaws.{above-0}
+use Rattle.promises.specs.Wrong.{RefusesEverything, OneFixedRow, Always21, MadeUpCount, WritesNothing, RepeatsFrames, InventsFrames, WritesOn, refusingEverything, findingOneRow, answering21, countingBy, leaving, writingNothing, framesOf, repeatingFrames, inventingFrames, changedWhere, writingOn}
+use Rattle.promises.specs.computed.Ours.{ours}
+use Rattle.promises.proofs.Demand2Met.{demand-2-ours}
 use Rattle.promises.proofs.NoChoice.{accepts-as-ours, finds-as-ours, traces-as-ours, counts-as-ours}
 use Rattle.promises.proofs.TableHolds.{table-holds}
 
@@ -62,17 +72,22 @@ table-K10 : traceOf sectionS stackWindow loaded (crashed 0 0) 2 sevens
 unfolding ours replyTo agreed table sevens
 table-K10 = let holds = table-holds 0 0 7 7 7 7 7 7 .1 .1 .1 .1 .1 .1 .1 .1 .1 .1 .1 .1 .1 .0 in cc
 
--- K10 with the stack at 0x8000, and SP and FP with it
-movedRegisters : Registers
-movedRegisters = record { pc = 0x401044; sp = 0x8000; fp = 0x8030; lr = 0; first = 0 }
+-- K10 with another stack: the word at 0x7030 is 1, so that the second frame has FP 1
+otherStack : List ℕ
+otherStack = set stackWindow 48 1
 
-moved : Where
-moved = record { section = 0x400000; stack = 0x8000 }
+other-K10 : traceOf sectionS otherStack loaded (crashed 0 0) 2 sevens
+    ≡ tracedAs (record { ending = Outermost; frames = 2 }) (0x7008 ∷ 0x401008 ∷ 0x7030 ∷ 0x7040 ∷ 0 ∷ 1 ∷ [])
+unfolding traceOpened sectionS stackWindow otherStack loaded crashed sevens
+other-K10 = refl
 
-moved-K10 : traceOf sectionS stackWindow moved movedRegisters 2 sevens
-    ≡ tracedAs (record { ending = Outermost; frames = 2 }) (0x8008 ∷ 0x401008 ∷ 0x8030 ∷ 0x8040 ∷ 0 ∷ 0 ∷ [])
-unfolding traceOpened sectionS stackWindow moved movedRegisters sevens
-moved-K10 = refl
+-- S with 4 rows in its header
+wrongSum : List ℕ
+wrongSum = set sectionS 12 4
+
+sum-refused : traceOf wrongSum stackWindow loaded (crashed 0 0) 2 sevens .answer .ending ≡ Unsound 15 0
+unfolding traceOpened sectionS wrongSum stackWindow loaded crashed sevens
+sum-refused = refl
 
 s-sorted : layoutOf sectionS .sorted ≡ true
 unfolding lookupOpened sectionS
@@ -89,15 +104,15 @@ module _ (calls : Calls) where
   refuses-everything-breaks-1 refuses demand =
       ⊎-elim (refuses sectionS)
       (λ known.
-      let (cause, is) = known in
-      let due = check-given sectionS cause .1 (demand .check sectionS .given cause .0 is) in
-      let none : 0 ≡ numberOfCause cause = sym (ap verdictNumber table-K1) ∙ due in
-      omega (arith, above-0 cause, none))
+      let (rule, is) = known in
+      let due = check-given sectionS rule .1 (demand .check sectionS .given rule .0 is) in
+      let none : 0 ≡ numberOfRule rule = sym (ap verdictNumber table-K1) ∙ due in
+      omega (arith, number-of-rule rule, none))
       (demand .check sectionS .known)
 
   -- ---- "a lookup with one fixed row, or always 21 (demand 2, K4, K5)"
 
-  pub one-fixed-row-breaks-2 : (row : Row) → OneFixedRow calls row → ¬ Demand2 calls
+  pub one-fixed-row-breaks-2 : (row : List ℕ → Row) → OneFixedRow calls row → ¬ Demand2 calls
   unfolding atEntry withFrame
   one-fixed-row-breaks-2 row fixed demand =
       let first = finds-as-ours calls demand sectionS table-K1 0x400000 0x401003 ∙ ap (λ a. a .outcome) table-K4 in
@@ -114,10 +129,11 @@ module _ (calls : Calls) where
       omega arith
 
   pub always-21-breaks-1 : Always21 calls → ¬ Demand1 calls
-  unfolding outcomeNumber numberOfCause
+  unfolding outcomeNumber numberOfUnfound numberOfLookupCause
   always-21-breaks-1 always demand =
-      let due = demand .lookup sectionS 0x400000 0x401003 .given noFunction .0 (always sectionS 0x400000 0x401003) in
-      let z : _≡_ {A = ℕ} 0 21 = sym (ap (λ a. outcomeNumber (a .outcome)) table-K4) ∙ lookup-given sectionS 0x400000 0x401003 noFunction .1 due in
+      let none = unfound noFunction in
+      let due = demand .lookup sectionS 0x400000 0x401003 .given none .0 (always sectionS 0x400000 0x401003) in
+      let z : _≡_ {A = ℕ} 0 21 = sym (ap (λ a. outcomeNumber (a .outcome)) table-K4) ∙ lookup-given sectionS 0x400000 0x401003 none .1 due in
       omega arith
 
   -- ---- "a made-up count (demand 3 and K7, by the halving rule)"
@@ -136,9 +152,9 @@ module _ (calls : Calls) where
       ≡ tracedAs (record { ending = Outermost; frames = 2 }) (0x7008 ∷ 0x401008 ∷ 0x7030 ∷ 0x7040 ∷ 0 ∷ 0 ∷ [])
   is-K10 demand = traces-as-ours calls demand sectionS stackWindow loaded (crashed 0 0) 2 sevens ∙ table-K10
 
-  is-moved : Demand2 calls → calls .trace sectionS stackWindow moved movedRegisters 2 sevens
-      ≡ tracedAs (record { ending = Outermost; frames = 2 }) (0x8008 ∷ 0x401008 ∷ 0x8030 ∷ 0x8040 ∷ 0 ∷ 0 ∷ [])
-  is-moved demand = traces-as-ours calls demand sectionS stackWindow moved movedRegisters 2 sevens ∙ moved-K10
+  is-other : Demand2 calls → calls .trace sectionS otherStack loaded (crashed 0 0) 2 sevens
+      ≡ tracedAs (record { ending = Outermost; frames = 2 }) (0x7008 ∷ 0x401008 ∷ 0x7030 ∷ 0x7040 ∷ 0 ∷ 1 ∷ [])
+  is-other demand = traces-as-ours calls demand sectionS otherStack loaded (crashed 0 0) 2 sevens ∙ other-K10
 
   pub writes-nothing-breaks-2 : WritesNothing calls → ¬ Demand2 calls
   unfolding tracedAs sevens
@@ -158,22 +174,41 @@ module _ (calls : Calls) where
       let second : 0x7040 ≡ frame .cfa = ap (λ words. getD words 3 0) words in
       omega (arith, first, second)
 
-  pub invents-frames-breaks-2 : (made : List Frame) → InventsFrames calls made → ¬ Demand2 calls
+  pub invents-frames-breaks-2 : (made : List ℕ → Where → Registers → ℕ → List ℕ → List Frame) → InventsFrames calls made → ¬ Demand2 calls
   unfolding tracedAs sevens allWords wordsOf over
   invents-frames-breaks-2 made invents demand =
       let (frame, is) = invents sectionS stackWindow loaded (crashed 0 0) 2 sevens in
-      let (other, too) = invents sectionS stackWindow moved movedRegisters 2 sevens in
-      by made (rw (is-K10 demand) at is) (rw (is-moved demand) at too)
+      let (other, too) = invents sectionS otherStack loaded (crashed 0 0) 2 sevens in
+      by (made sectionS loaded (crashed 0 0) 2 sevens) (rw (is-K10 demand) at is) (rw (is-other demand) at too)
     where
       by : {frame other : Frame} (made : List Frame)
           → (0x7008 ∷ 0x401008 ∷ 0x7030 ∷ 0x7040 ∷ 0 ∷ 0 ∷ []) ≡ over (allWords (take 2 (frame ∷ made))) sevens
-          → (0x8008 ∷ 0x401008 ∷ 0x8030 ∷ 0x8040 ∷ 0 ∷ 0 ∷ []) ≡ over (allWords (take 2 (other ∷ made))) sevens
+          → (0x7008 ∷ 0x401008 ∷ 0x7030 ∷ 0x7040 ∷ 0 ∷ 1 ∷ []) ≡ over (allWords (take 2 (other ∷ made))) sevens
           → ⊥
       by [] here there = let z : _≡_ {A = ℕ} 0x7040 7 = ap (λ words. getD words 3 0) here in omega arith
       by (second ∷ more) here there =
-          let one : 0x7040 ≡ second .cfa = ap (λ words. getD words 3 0) here in
-          let two : 0x8040 ≡ second .cfa = ap (λ words. getD words 3 0) there in
+          let one : 0 ≡ second .fp = ap (λ words. getD words 5 0) here in
+          let two : 1 ≡ second .fp = ap (λ words. getD words 5 0) there in
           omega (arith, one, two)
+
+  -- ---- a trace that writes a word where it is refused with 41, at its door, or with 15, the last of the section's
+
+  pub writes-on-41-breaks-1 : WritesOn calls 41 → ¬ Demand1 calls
+  unfolding numberOfTraceCause numberOfStepCause
+  writes-on-41-breaks-1 writes demand =
+      let past : Where = record { section = 0; stack = 2 ^ 64 } in
+      let above : Rule41 (0 ∷ []) past = omega arith in
+      let refuses = demand .trace [] (0 ∷ []) past (crashed 0 0) 2 sevens in
+      writes [] (0 ∷ []) past (crashed 0 0) 2 sevens (refuses .given window .1 above)
+      (refuses .leaves .shut 41 (refuses .at-door 41 .1 (inl (refl, above))) .1)
+
+  pub writes-on-15-breaks-1 : WritesOn calls 15 → ¬ Demand1 calls
+  unfolding numberOfRule endingNumber
+  writes-on-15-breaks-1 writes demand =
+      let refuses = demand .trace wrongSum stackWindow loaded (crashed 0 0) 2 sevens in
+      let given = unsound-exactly-when wrongSum stackWindow loaded (crashed 0 0) 2 sevens rowSum 0 .0 sum-refused in
+      let is = refuses .carries rowSum 0 .1 given in
+      writes wrongSum stackWindow loaded (crashed 0 0) 2 sevens (ap endingNumber is) (refuses .leaves .unsound 15 0 is .1)
 
 -- ---- there are such calls
 
@@ -181,7 +216,7 @@ pub refusing-everything-refuses : RefusesEverything refusingEverything
 unfolding refusingEverything
 refusing-everything-refuses s e = accepted-or-refused (sym e)
 
-pub finding-one-row-finds : (row : Row) → OneFixedRow (findingOneRow row) row
+pub finding-one-row-finds : (row : List ℕ → Row) → OneFixedRow (findingOneRow row) row
 unfolding findingOneRow
 finding-one-row-finds row s address pc found i k is = cc
 
@@ -199,22 +234,55 @@ writing-nothing-writes s stack lies registers limit old = refl
 
 pub repeating-frames-repeats : RepeatsFrames repeatingFrames
 unfolding repeatingFrames leaving traceOf traced tracedAs
-repeating-frames-repeats s stack lies registers limit old = (getD (walkIn s stack lies registers limit (length old) .frames) 0 noFrame, refl)
+repeating-frames-repeats s stack lies registers limit old = (getD (framesOf s stack lies registers limit old) 0 noFrame, refl)
 
-pub inventing-frames-invents : (made : List Frame) → InventsFrames (inventingFrames made) made
+pub inventing-frames-invents : (made : List ℕ → Where → Registers → ℕ → List ℕ → List Frame) → InventsFrames (inventingFrames made) made
 unfolding inventingFrames leaving traceOf traced tracedAs
-inventing-frames-invents made s stack lies registers limit old = (getD (walkIn s stack lies registers limit (length old) .frames) 0 noFrame, refl)
+inventing-frames-invents made s stack lies registers limit old = (getD (framesOf s stack lies registers limit old) 0 noFrame, refl)
+
+pub writing-on-writes : (number : ℕ) → WritesOn (writingOn number) number
+unfolding writingOn leaving changedWhere tracedAs over
+writing-on-writes number s stack lies registers limit old is same =
+    let words = rw (eq-eqb _ number is, changedWhere) at same in
+    let z : suc (getD old 0 0) ≡ getD old 0 0 = ap (λ l. getD l 0 0) words in
+    omega arith
+
+-- ---- a made-up count meets demand 2, so that it is demand 3 that refuses it
+
+pub counting-by-meets-2 : (count : List ℕ → ℕ) → Demand2 (countingBy count)
+unfolding countingBy ours
+counting-by-meets-2 count =
+    record {
+      accepts = demand-2-ours .accepts;
+      finds = demand-2-ours .finds;
+      values = demand-2-ours .values;
+      steps = demand-2-ours .steps;
+      in-bytes = demand-2-ours .in-bytes;
+      traces = demand-2-ours .traces;
+      from-the-last =
+          λ s stack lies registers limit old.
+          let frames = demand-2-ours .from-the-last s stack lies registers limit old in
+          record {
+            at = frames .at;
+            starts = frames .starts;
+            steps = frames .steps;
+            defined = frames .defined;
+            written = frames .written;
+          };
+    }
 
 -- ---- so each of these wrong calls is refused by its demand
 
 pub wrong-calls-broken :
     (¬ Demand2 refusingEverything)
-    × ((row : Row) → ¬ Demand2 (findingOneRow row))
+    × ((row : List ℕ → Row) → ¬ Demand2 (findingOneRow row))
     × (¬ Demand2 answering21)
     × (¬ Demand2 writingNothing)
     × (¬ Demand2 repeatingFrames)
-    × ((made : List Frame) → ¬ Demand2 (inventingFrames made))
+    × ((made : List ℕ → Where → Registers → ℕ → List ℕ → List Frame) → ¬ Demand2 (inventingFrames made))
     × ((count : List ℕ → ℕ) → ¬ Demand3 (countingBy count))
+    × (¬ Demand1 (writingOn 41))
+    × (¬ Demand1 (writingOn 15))
 wrong-calls-broken = (
   refuses-everything-breaks-2 refusingEverything refusing-everything-refuses,
   λ row. one-fixed-row-breaks-2 (findingOneRow row) row (finding-one-row-finds row),
@@ -223,4 +291,6 @@ wrong-calls-broken = (
   repeats-frames-breaks-2 repeatingFrames repeating-frames-repeats,
   λ made. invents-frames-breaks-2 (inventingFrames made) made (inventing-frames-invents made),
   λ count. made-up-count-breaks-3 (countingBy count) count (counting-by-counts count),
+  writes-on-41-breaks-1 (writingOn 41) (writing-on-writes 41),
+  writes-on-15-breaks-1 (writingOn 15) (writing-on-writes 15),
 )

@@ -1,85 +1,113 @@
--- The numbers of document 01 and their causes: no two causes have one number, and so a call whose number is always due gives each number
--- exactly when it is due.
+-- The numbers of each call are all there are: every cause stands in its call's list, and these are the lists' numbers. That no two causes
+-- of a call have one number is `rules-distinct`, `lookup-distinct`, `step-distinct` and `trace-distinct` of the layers.
 -- Assumes nothing.
-use mathlib.Core.Path.{_≡_, refl, sym, _∙_, ap}
-use mathlib.Core.List.{List, [], _∷_, map}
-use mathlib.Core.Logic.{_⊎_, inl, inr, _↔_, ⊎-elim}
-use Prim.Native.Nat.{ℕ, _-_, _≤_, _<_}
+use mathlib.Core.Path.{_≡_, refl}
+use mathlib.Core.List.{List, [], _∷_, map, List·Mem, mem-cons-self, mem-cons-of-mem, mem-append-left, mem-append-right, mem-map-of-mem}
+use Prim.Native.Nat.{ℕ, zero, suc, _<_}
 use native.Mathlib.Omega.{arith}
-use lib.ListN.{getD}
-use Rattle.accept.specs.Given.{Rule, numberOfRule}
-use Rattle.accept.proofs.Exactly.{number-of-rule, by-number}
-use Rattle.promises.specs.Refusals.{Cause, unsound, noFunction, dispute, noRow, signed, cfaOutside, cfaLow, raLost, wordOutside, outermost, full, window, limitAbove, tooFewWords, numberOfCause, everyCause, HasCause}
+use lib.ListN.{length, getD}
+use Rattle.accept.specs.Given.{Rule, short, long, magic, version, flags, abi, fixed, sizes, entryInfo, repeatSize, rowsInside, rowInfo, rowsRising, sorted, rowSum, numberOfRule}
+use Rattle.lookup.specs.Numbers as lookup
+use Rattle.lookup.specs.Numbers.{Unfound, noFunction, dispute, noRow, numberOfUnfound, LookupCause, numberOfLookupCause}
+use Rattle.caller.specs.Numbers as step
+use Rattle.caller.specs.Numbers.{Refusal, unfound, signed, cfaOutside, cfaLow, raLost, wordOutside, numberOfRefusal, StepCause, numberOfStepCause}
+use Rattle.trace.specs.Numbers.{TraceCause, window, limitAbove, tooFewWords, unsound, refused, outermost, full, numberOfTraceCause}
+use Rattle.promises.specs.Refusals.{everyRule, everyUnfound, everyLookupCause, everyRefusal, everyStepCause, everyTraceCause}
 
--- 1 to 15, 21 to 28, 30, 31 and 41 to 43
-pub every-number : map numberOfCause everyCause
+-- ---- every cause is listed
+
+at-place : {A : Type 0} (l : List A) (k : ℕ) (default : A) → k < length l → List·Mem (getD l k default) l
+at-place [] k default lt = absurd (omega arith)
+at-place (x ∷ l) zero default lt = mem-cons-self
+at-place (x ∷ l) (suc k) default lt = mem-cons-of-mem x (at-place l k default (omega arith))
+
+pub every-rule : (rule : Rule) → List·Mem rule everyRule
+unfolding everyRule
+every-rule short = at-place everyRule 0 short (omega arith)
+every-rule long = at-place everyRule 1 short (omega arith)
+every-rule magic = at-place everyRule 2 short (omega arith)
+every-rule version = at-place everyRule 3 short (omega arith)
+every-rule flags = at-place everyRule 4 short (omega arith)
+every-rule abi = at-place everyRule 5 short (omega arith)
+every-rule fixed = at-place everyRule 6 short (omega arith)
+every-rule sizes = at-place everyRule 7 short (omega arith)
+every-rule entryInfo = at-place everyRule 8 short (omega arith)
+every-rule repeatSize = at-place everyRule 9 short (omega arith)
+every-rule rowsInside = at-place everyRule 10 short (omega arith)
+every-rule rowInfo = at-place everyRule 11 short (omega arith)
+every-rule rowsRising = at-place everyRule 12 short (omega arith)
+every-rule sorted = at-place everyRule 13 short (omega arith)
+every-rule rowSum = at-place everyRule 14 short (omega arith)
+
+every-unfound : (why : Unfound) → List·Mem why everyUnfound
+unfolding everyUnfound
+every-unfound noFunction = at-place everyUnfound 0 noFunction (omega arith)
+every-unfound dispute = at-place everyUnfound 1 noFunction (omega arith)
+every-unfound noRow = at-place everyUnfound 2 noFunction (omega arith)
+
+pub every-lookup-cause : (cause : LookupCause) → List·Mem cause everyLookupCause
+unfolding everyLookupCause
+every-lookup-cause (lookup.unsound rule) = mem-append-left _ (mem-map-of-mem lookup.unsound (every-rule rule))
+every-lookup-cause (lookup.unfound why) = mem-append-right (map lookup.unsound everyRule) (mem-map-of-mem lookup.unfound (every-unfound why))
+
+-- the refusals by a row
+byRow : List Refusal
+byRow = signed ∷ cfaOutside ∷ cfaLow ∷ raLost ∷ wordOutside ∷ []
+
+by-row : (k : ℕ) → k < 5 → List·Mem (getD byRow k signed) everyRefusal
+unfolding everyRefusal byRow
+by-row k lt = mem-append-right (map unfound everyUnfound) (at-place byRow k signed lt)
+
+pub every-refusal : (refusal : Refusal) → List·Mem refusal everyRefusal
+unfolding everyRefusal byRow
+every-refusal (unfound why) = mem-append-left _ (mem-map-of-mem unfound (every-unfound why))
+every-refusal signed = by-row 0 (omega arith)
+every-refusal cfaOutside = by-row 1 (omega arith)
+every-refusal cfaLow = by-row 2 (omega arith)
+every-refusal raLost = by-row 3 (omega arith)
+every-refusal wordOutside = by-row 4 (omega arith)
+
+pub every-step-cause : (cause : StepCause) → List·Mem cause everyStepCause
+unfolding everyStepCause
+every-step-cause step.window = mem-append-right (map step.unsound everyRule) (mem-append-right (map step.refused everyRefusal) mem-cons-self)
+every-step-cause (step.unsound rule) = mem-append-left _ (mem-map-of-mem step.unsound (every-rule rule))
+every-step-cause (step.refused refusal) =
+    mem-append-right (map step.unsound everyRule) (mem-append-left _ (mem-map-of-mem step.refused (every-refusal refusal)))
+
+-- a trace's alone
+others : List TraceCause
+others = outermost ∷ full ∷ window ∷ limitAbove ∷ tooFewWords ∷ []
+
+other : (k : ℕ) → k < 5 → List·Mem (getD others k window) everyTraceCause
+unfolding everyTraceCause others
+other k lt = mem-append-right (map unsound everyRule) (mem-append-right (map refused everyRefusal) (at-place others k window lt))
+
+pub every-trace-cause : (cause : TraceCause) → List·Mem cause everyTraceCause
+unfolding everyTraceCause others
+every-trace-cause window = other 2 (omega arith)
+every-trace-cause limitAbove = other 3 (omega arith)
+every-trace-cause tooFewWords = other 4 (omega arith)
+every-trace-cause (unsound rule) = mem-append-left _ (mem-map-of-mem unsound (every-rule rule))
+every-trace-cause (refused refusal) =
+    mem-append-right (map unsound everyRule) (mem-append-left _ (mem-map-of-mem refused (every-refusal refusal)))
+every-trace-cause outermost = other 0 (omega arith)
+every-trace-cause full = other 1 (omega arith)
+
+-- ---- and these are their numbers
+
+pub lookup-numbers : map numberOfLookupCause everyLookupCause
+    ≡ 1 ∷ 2 ∷ 3 ∷ 4 ∷ 5 ∷ 6 ∷ 7 ∷ 8 ∷ 9 ∷ 10 ∷ 11 ∷ 12 ∷ 13 ∷ 14 ∷ 15 ∷ 21 ∷ 22 ∷ 23 ∷ []
+unfolding everyRule everyUnfound everyLookupCause numberOfRule numberOfUnfound numberOfLookupCause
+lookup-numbers = refl
+
+pub step-numbers : map numberOfStepCause everyStepCause
+    ≡ 1 ∷ 2 ∷ 3 ∷ 4 ∷ 5 ∷ 6 ∷ 7 ∷ 8 ∷ 9 ∷ 10 ∷ 11 ∷ 12 ∷ 13 ∷ 14 ∷ 15 ∷ 21 ∷ 22 ∷ 23 ∷ 24 ∷ 25 ∷ 26 ∷ 27 ∷ 28 ∷ 41 ∷ []
+unfolding everyRule everyUnfound everyRefusal everyStepCause numberOfRule numberOfUnfound numberOfRefusal numberOfStepCause
+step-numbers = refl
+
+-- 1 to 15, 21 to 28, 30, 31 and 41 to 43: every number of document 01
+pub every-number : map numberOfTraceCause everyTraceCause
     ≡ 1 ∷ 2 ∷ 3 ∷ 4 ∷ 5 ∷ 6 ∷ 7 ∷ 8 ∷ 9 ∷ 10 ∷ 11 ∷ 12 ∷ 13 ∷ 14 ∷ 15
     ∷ 21 ∷ 22 ∷ 23 ∷ 24 ∷ 25 ∷ 26 ∷ 27 ∷ 28 ∷ 30 ∷ 31 ∷ 41 ∷ 42 ∷ 43 ∷ []
-unfolding everyCause numberOfCause numberOfRule
+unfolding everyRule everyUnfound everyRefusal everyTraceCause numberOfRule numberOfUnfound numberOfRefusal numberOfStepCause numberOfTraceCause
 every-number = refl
-
--- the causes from 21 on; where a number has none, the one before it is repeated
-causes : List Cause
-causes =
-    noFunction ∷ dispute ∷ noRow ∷ signed ∷ cfaOutside ∷ cfaLow ∷ raLost ∷ wordOutside ∷ wordOutside ∷ outermost ∷ full
-    ∷ full ∷ full ∷ full ∷ full ∷ full ∷ full ∷ full ∷ full ∷ full ∷ window ∷ limitAbove ∷ tooFewWords ∷ []
-
-abbrev causeOf : ℕ → Cause
-unfolding causes
-causeOf number = getD causes (number - 21) noFunction
-
--- a cause is a broken rule, of 1 to 15, or is found by its number
-abbrev AtItsNumber : Cause → Type 0
-AtItsNumber cause = ((rule : Rule) × (cause ≡ unsound rule)) ⊎ ((21 ≤ numberOfCause cause) × (causeOf (numberOfCause cause) ≡ cause))
-
-at-number : (cause : Cause) → AtItsNumber cause
-unfolding causeOf numberOfCause
-at-number (unsound rule) = inl (rule, refl)
-at-number noFunction = inr (omega arith, refl)
-at-number dispute = inr (omega arith, refl)
-at-number noRow = inr (omega arith, refl)
-at-number signed = inr (omega arith, refl)
-at-number cfaOutside = inr (omega arith, refl)
-at-number cfaLow = inr (omega arith, refl)
-at-number raLost = inr (omega arith, refl)
-at-number wordOutside = inr (omega arith, refl)
-at-number outermost = inr (omega arith, refl)
-at-number full = inr (omega arith, refl)
-at-number window = inr (omega arith, refl)
-at-number limitAbove = inr (omega arith, refl)
-at-number tooFewWords = inr (omega arith, refl)
-
-pub above-0 : (cause : Cause) → 0 < numberOfCause cause
-unfolding numberOfCause
-above-0 cause = ⊎-elim (λ h. let (rule, is) = h in rw is (omega (arith, number-of-rule rule))) (λ h. omega (arith, h .0)) (at-number cause)
-
-pub same-cause : (cause other : Cause) → numberOfCause cause ≡ numberOfCause other → cause ≡ other
-unfolding numberOfCause
-same-cause cause other e = by (at-number cause) (at-number other)
-  where
-    by : AtItsNumber cause → AtItsNumber other → cause ≡ other
-    by (inl (rule, is)) (inl (also, too)) =
-        is ∙ ap unsound (by-number rule also (sym (ap numberOfCause is) ∙ e ∙ ap numberOfCause too)) ∙ sym too
-    by (inl (rule, is)) (inr (least, found)) =
-        absurd (let same : numberOfRule rule ≡ numberOfCause other = sym (ap numberOfCause is) ∙ e in omega (arith, same, number-of-rule rule))
-    by (inr (least, found)) (inl (rule, is)) =
-        absurd (let same : numberOfCause cause ≡ numberOfRule rule = e ∙ ap numberOfCause is in omega (arith, same, number-of-rule rule))
-    by (inr (least, found)) (inr (also, too)) = sym found ∙ ap causeOf e ∙ too
-
--- ---- a call whose number is 0, or that of a cause that holds
-
-abbrev pub Due : ℕ → (Cause → Type 0) → Type 0
-Due number On = (number ≡ 0) ⊎ ((cause : Cause) × (number ≡ numberOfCause cause) × On cause)
-
-module _ (number : ℕ) (On : Cause → Type 0) where
-  -- where it is not 0, it is that of a cause
-  pub due-known : Due number On → (number ≡ 0) ⊎ HasCause number
-  due-known (inl none) = inl none
-  due-known (inr (cause, is, on)) = inr (cause, is)
-
-  pub due-exactly-when : Due number On → ((cause : Cause) → On cause → number ≡ numberOfCause cause) → (cause : Cause) → (number ≡ numberOfCause cause) ↔ On cause
-  due-exactly-when due makes cause = (λ e. by e due, makes cause)
-    where
-      by : number ≡ numberOfCause cause → Due number On → On cause
-      by e (inl none) = absurd (omega (arith, above-0 cause))
-      by e (inr (other, is, on)) = rw (same-cause cause other (sym e ∙ is)) on

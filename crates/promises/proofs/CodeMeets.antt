@@ -9,12 +9,12 @@ use Rattle.caller.proofs.registers.Registers.step.Met as step-met
 use Rattle.caller.proofs.registers.Registers.step.Statement as step-statement
 use Rattle.trace.proofs.walk.trace.Met as trace-met
 use Rattle.trace.proofs.walk.trace.Statement as trace-statement
+use Rattle.suntimpani.proofs.suntimpani_caller.Met as exported-caller-met
+use Rattle.suntimpani.proofs.suntimpani_caller.Statement as exported-caller-statement
 use Rattle.suntimpani.proofs.suntimpani_check.Met as exported-check-met
 use Rattle.suntimpani.proofs.suntimpani_check.Statement as exported-check-statement
 use Rattle.suntimpani.proofs.suntimpani_lookup.Met as exported-lookup-met
 use Rattle.suntimpani.proofs.suntimpani_lookup.Statement as exported-lookup-statement
-use Rattle.suntimpani.proofs.suntimpani_caller.Met as exported-caller-met
-use Rattle.suntimpani.proofs.suntimpani_caller.Statement as exported-caller-statement
 use Rattle.suntimpani.proofs.suntimpani_trace.Met as exported-trace-met
 use Rattle.suntimpani.proofs.suntimpani_trace.Statement as exported-trace-statement
 

@@ -3,15 +3,17 @@
 use mathlib.Core.Path.{_≡_, refl}
 use mathlib.Core.List.{List, []}
 use Prim.Native.Nat.{ℕ}
-use Rattle.accept.specs.Checks.{verdict}
-use Rattle.lookup.specs.Answers.{lookupOf}
-use Rattle.caller.specs.Caller.{stepIn}
+use Rattle.accept.specs.computed.Checks.{verdict}
+use Rattle.lookup.specs.computed.Answers.{lookupOf}
+use Rattle.caller.specs.computed.Caller.{stepIn}
 use Rattle.caller.specs.declared.registers.Registers.{Registers}
 use Rattle.caller.specs.declared.registers.Where.{Where}
-use Rattle.trace.specs.Trace.{tracedAs, traceOf}
-use Rattle.promises.specs.Calls.{Calls, ours}
+use Rattle.trace.specs.Frames.{tracedAs}
+use Rattle.trace.specs.computed.Trace.{traceOf}
+use Rattle.promises.specs.Calls.{Calls}
 use Rattle.promises.specs.Contracts.{Keeps, GivenBy}
-use Rattle.promises.specs.Lent.{Lies, lent}
+use Rattle.promises.specs.computed.Ours.{ours}
+use Rattle.promises.specs.inner.Lent.{Lies, lent}
 
 pub contracts-give : GivenBy ours
 unfolding ours

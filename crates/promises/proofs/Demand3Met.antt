@@ -5,30 +5,30 @@ use mathlib.Core.Path.{_≡_, sym, _∙_}
 use mathlib.Core.Bool.{true}
 use mathlib.Core.List.{List}
 use Prim.Native.Nat.{ℕ}
-use Rattle.numbers.specs.Address.{windowFits}
-use Rattle.numbers.specs.Held.{distance}
+use Rattle.numbers.specs.Start.{distance}
+use Rattle.numbers.specs.computed.Address.{windowFits}
 use Rattle.section.specs.Header.{layoutOf}
-use Rattle.accept.specs.Checks.{verdict}
+use Rattle.accept.specs.computed.Checks.{verdict}
 use Rattle.accept.specs.declared.verdict.Verdict.the-variants.{Accepted}
-use Rattle.lookup.specs.Answers.{afterCheck, lookupOf}
-use Rattle.lookup.specs.Finding.{findingOf, lookIn}
+use Rattle.lookup.specs.Finding.{findingOf}
+use Rattle.lookup.specs.computed.Answers.{answerAfter, lookupOf, lookIn}
 use Rattle.lookup.proofs.CoveringLaws.{by-value}
 use Rattle.lookup.proofs.Exactly.{count-unsorted, count-halving, count-log, count-twenty}
-use Rattle.caller.specs.Caller as caller
-use Rattle.caller.specs.Caller.{stepIn}
+use Rattle.caller.specs.computed.Caller as caller
+use Rattle.caller.specs.computed.Caller.{stepIn}
 use Rattle.caller.specs.declared.registers.Registers.{Registers}
 use Rattle.caller.specs.declared.registers.Where.{Where}
 use Rattle.caller.proofs.Exactly.{through-look}
 use Rattle.trace.proofs.Exactly.{trace-through-look}
-use Rattle.promises.specs.Calls.{ours}
 use Rattle.promises.specs.Demand3.{Alike, Counts, Demand3}
+use Rattle.promises.specs.computed.Ours.{ours}
 use Rattle.promises.proofs.Demand2Met.{demand-2-ours}
 use Rattle.promises.proofs.OrderLaws.{same-finding, same-shape}
 use Rattle.promises.proofs.SortedLaws.{same-compared}
 
 -- what a lookup finds in an accepted section
 finding-is : (s : List ℕ) → verdict s ≡ Accepted → (address pc : ℕ) → findingOf (lookupOf s address pc .outcome) ≡ lookIn s address pc
-unfolding lookupOf afterCheck lookIn
+unfolding lookupOf answerAfter lookIn
 finding-is s accepted address pc = rw accepted
 
 counts-ours : (s : List ℕ) → verdict s ≡ Accepted → (address pc : ℕ) → Counts ours s address pc
@@ -58,12 +58,12 @@ module _ (s t : List ℕ) (alike : Alike ours s t) where
       finding-is s accepted-s address pc ∙ looks-same address pc ∙ sym (finding-is t accepted-t address pc)
 
   callers-same : (stack : List ℕ) (lies : Where) (registers : Registers) → stepIn s stack lies registers ≡ stepIn t stack lies registers
-  unfolding stepIn caller.afterCheck
+  unfolding stepIn caller.ifFits caller.stepAfter
   callers-same stack lies registers =
       let through = through-look s t (lies .section) (lies .section) (same-shape s t (alike .same)) (looks-same (lies .section)) in
       by-value (windowFits stack (lies .stack))
-      (λ fits. rw (fits, stepIn) (rw (accepted-s, accepted-t, through)))
-      (λ past. rw (past, stepIn))
+      (λ fits. rw (fits, caller.ifFits) (rw (accepted-s, accepted-t, through)))
+      (λ past. rw (past, caller.ifFits))
 
   counts-same : layoutOf s .sorted ≡ true → layoutOf t .sorted ≡ true → (address pc : ℕ)
       → lookupOf s address pc .compared ≡ lookupOf t address pc .compared

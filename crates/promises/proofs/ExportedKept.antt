@@ -4,13 +4,13 @@
 use mathlib.Core.Path.{_≡_, refl, sym, _∙_, ap, subst}
 use mathlib.Core.List.{[]}
 use Prim.Native.Nat.{ℕ}
-use Rattle.suntimpani.specs.Flat.{walkedAs}
+use Rattle.suntimpani.specs.Flat.{handedAs}
 use Rattle.suntimpani.proofs.Lossless.{check-read-back, lookup-read-back, caller-read-back, trace-read-back}
-use Rattle.promises.specs.Calls.{ours}
 use Rattle.promises.specs.Contracts.{Keeps}
 use Rattle.promises.specs.Exported.{FlatCalls, readCalls, flatCalls, exported, FlatKeeps, FlatGivenBy, FlatDemands, FlatPromised}
-use Rattle.promises.specs.Lent.{lent}
 use Rattle.promises.specs.Table.{Holds, table, aarch64Table}
+use Rattle.promises.specs.computed.Ours.{ours}
+use Rattle.promises.specs.inner.Lent.{lent}
 use Rattle.promises.proofs.ContractLaws.{contracts-kept, somewhere}
 use Rattle.promises.proofs.Kept.{promises-kept, table-kept, aarch64-kept}
 use Rattle.promises.proofs.NoChoice.{demands-ours-alone}
@@ -29,7 +29,7 @@ exports-give =
     }
 
 pub exports-kept : FlatKeeps exported
-unfolding exported flatCalls ours walkedAs
+unfolding exported flatCalls ours handedAs
 exports-kept =
     record {
       check = λ κs a. refl;
@@ -41,7 +41,7 @@ exports-kept =
 -- ---- flat calls that keep them are ours
 
 kept-are-exported : (flat : FlatCalls) → FlatKeeps flat → flat ≡ exported
-unfolding exported flatCalls ours walkedAs
+unfolding exported flatCalls ours handedAs
 kept-are-exported flat keeps =
     same-calls flat exported
     (λ s. keeps .check ([], tt) (lent somewhere s, tt))

@@ -3,10 +3,11 @@
 -- Assumes nothing.
 use mathlib.Core.Path.{_≡_, sym, subst}
 use Prim.Native.Nat.{ℕ}
-use Rattle.promises.specs.Calls.{Calls, ours}
+use Rattle.promises.specs.Calls.{Calls}
 use Rattle.promises.specs.Contracts.{Keeps}
 use Rattle.promises.specs.Promises.{Demands, Promised}
 use Rattle.promises.specs.Table.{Holds, table, aarch64Table}
+use Rattle.promises.specs.computed.Ours.{ours}
 use Rattle.promises.proofs.ContractLaws.{check-is, lookup-is, step-is, trace-is}
 use Rattle.promises.proofs.Demand1Met.{demand-1-ours}
 use Rattle.promises.proofs.Demand2Met.{demand-2-ours}

@@ -8,8 +8,6 @@ pub mod Demand1Met
 pub mod Demand2Met
 pub mod Demand3Met
 pub mod ExportedKept
-pub mod GivenByTrace
-pub mod GivenExactly
 pub mod HexadecimalDetermined
 pub mod Kept
 pub mod LookupDetermined

@@ -1,7 +1,6 @@
 -- Every public function of `lookup` determines its reply: two replies that its own contract allows for one input are equal.
 -- Assumes nothing.
 use mathlib.Core.Path.{refl, sym, _∙_}
-use Rattle.promises.specs.Determined.{Determined}
 use Rattle.lookup.proofs.look.look.Kinds as look-kinds
 use Rattle.lookup.proofs.look.look.Reads as look-reads
 use Rattle.lookup.proofs.look.lookup.Kinds as lookup-kinds
@@ -12,18 +11,19 @@ use Rattle.lookup.proofs.search.find.Kinds as find-kinds
 use Rattle.lookup.proofs.search.find.Reads as find-reads
 use Rattle.lookup.proofs.table.entry_in.Kinds as entry_in-kinds
 use Rattle.lookup.proofs.table.entry_in.Reads as entry_in-reads
+use Rattle.promises.specs.Determined.{Determined}
 
-pub look-determined : Determined look-kinds.ps look-kinds.r look-reads.Post
+pub look-determined : Determined look-kinds.ps look-kinds.r look-reads.Learnt
 look-determined κs a z z′ w w′ p q = (p ∙ sym q, refl)
 
-pub lookup-determined : Determined lookup-kinds.ps lookup-kinds.r lookup-reads.Post
+pub lookup-determined : Determined lookup-kinds.ps lookup-kinds.r lookup-reads.Learnt
 lookup-determined κs a z z′ w w′ p q = (p ∙ sym q, refl)
 
-pub scan_rows-determined : Determined scan_rows-kinds.ps scan_rows-kinds.r scan_rows-reads.Post
+pub scan_rows-determined : Determined scan_rows-kinds.ps scan_rows-kinds.r scan_rows-reads.Learnt
 scan_rows-determined κs a z z′ w w′ p q = (p ∙ sym q, refl)
 
-pub find-determined : Determined find-kinds.ps find-kinds.r find-reads.Post
+pub find-determined : Determined find-kinds.ps find-kinds.r find-reads.Learnt
 find-determined κs a z z′ w w′ p q = (p ∙ sym q, refl)
 
-pub entry_in-determined : Determined entry_in-kinds.ps entry_in-kinds.r entry_in-reads.Post
+pub entry_in-determined : Determined entry_in-kinds.ps entry_in-kinds.r entry_in-reads.Learnt
 entry_in-determined κs a z z′ w w′ p q = (p ∙ sym q, refl)

@@ -8,27 +8,29 @@ use mathlib.Core.Logic.{⊎-elim}
 use Prim.Native.Nat.{ℕ}
 use native.Mathlib.Omega.{arith}
 use Rattle.section.specs.Header.{layoutOf}
-use Rattle.accept.specs.Checks.{verdict}
 use Rattle.accept.specs.Given.{numberOfRule}
+use Rattle.accept.specs.computed.Checks.{verdict}
 use Rattle.accept.specs.declared.verdict.Verdict.the-variants.{Accepted}
-use Rattle.accept.proofs.Exactly.{accepted-exactly-when, given-exactly-when, refused-by-a-rule, obeys-or-refusal}
-use Rattle.lookup.specs.Answers.{lookupOf}
+use Rattle.accept.proofs.Exactly.{accepted-exactly-when, given-exactly-when, obeys-or-refusal}
+use Rattle.lookup.specs.computed.Answers.{lookupOf}
 use Rattle.lookup.proofs.CoveringLaws.{by-value}
 use Rattle.lookup.proofs.Exactly as looks
 use Rattle.lookup.proofs.Exactly.{answer-exactly-when, count-halving}
-use Rattle.caller.specs.Caller.{stepIn, stepNumber, stepIndexes, stepRegisters}
+use Rattle.caller.specs.Numbers.{stepNumber, stepIndexes, stepRegisters}
+use Rattle.caller.specs.computed.Caller.{stepIn}
 use Rattle.caller.specs.declared.registers.Registers.{Registers}
 use Rattle.caller.specs.declared.registers.Step.{Step}
 use Rattle.caller.specs.declared.registers.Step.the-variants.{Caller, Unsound, Refused}
 use Rattle.caller.specs.declared.registers.Where.{Where}
 use Rattle.caller.proofs.Exactly.{step-exactly-when, unsound-exactly-when, caller-exactly-when, number-0-exactly-when}
-use Rattle.trace.specs.Trace.{traceOf}
+use Rattle.caller.proofs.NumberLaws.{step-due}
+use Rattle.trace.specs.computed.Trace.{traceOf}
 use Rattle.trace.proofs.Exactly.{case-answers}
-use Rattle.promises.specs.Calls.{Calls, ours}
+use Rattle.promises.specs.Calls.{Calls}
 use Rattle.promises.specs.Demand2.{leftBy, Demand2}
 use Rattle.promises.specs.Demand3.{Demand3}
 use Rattle.promises.specs.Promises.{Demands}
-use Rattle.promises.proofs.GivenExactly.{step-due}
+use Rattle.promises.specs.computed.Ours.{ours}
 use Rattle.promises.proofs.SameCalls.{same-calls}
 
 module _ (calls : Calls) (demand : Demand2 calls) where
@@ -122,7 +124,7 @@ module _ (calls : Calls) (demands : Demands calls) where
       absurd (let z : _≡_ {A = ℕ} 0 1 = cc in omega arith)
   refused-as-ours s stack lies registers old number is (Unsound other m index) answers =
       let (fits, rule, given) = demands .demand-1 .step s stack lies registers .indexed index .0 (ap stepIndexes answers) in
-      let too = unsound-exactly-when s stack lies registers (numberOfRule rule) index .1 (fits, given-exactly-when s rule index .1 given) in
+      let too = unsound-exactly-when s stack lies registers rule index .1 (fits, given) in
       let clash : Unsound registers (numberOfRule rule) index ≡ Refused old number = sym too ∙ is in
       absurd (let z : _≡_ {A = ℕ} 0 1 = cc in omega arith)
   refused-as-ours s stack lies registers old number is (Refused other m) answers =
@@ -139,8 +141,7 @@ module _ (calls : Calls) (demands : Demands calls) where
       by : (o : Step) → stepIn s stack lies registers ≡ o → calls .step s stack lies registers ≡ o
       by (Caller caller) is = demands .demand-2 .steps s stack lies registers caller .1 (caller-exactly-when s stack lies registers caller .0 is)
       by (Unsound old number index) is =
-          let (same, fits, e) = step-exactly-when s stack lies registers (Unsound old number index) .0 is in
-          let (rule, number-is, given) = refused-by-a-rule s number index e in
+          let (same, (fits, rule, number-is, given)) = step-exactly-when s stack lies registers (Unsound old number index) .0 is in
           rw (same, number-is) (demands .demand-1 .step s stack lies registers .carries rule index .1 (fits, given))
       by (Refused old number) is = refused-as-ours s stack lies registers old number is (calls .step s stack lies registers) refl
 

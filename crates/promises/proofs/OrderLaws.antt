@@ -12,22 +12,21 @@ use native.Mathlib.Nat.{zero-add, add-zero}
 use native.Mathlib.Omega.{arith}
 use lib.IntN.{ℤ}
 use lib.ListN.{length, getD}
-use Rattle.numbers.specs.Held.{distance}
+use Rattle.numbers.specs.Start.{distance}
 use Rattle.section.specs.Header.{layoutFrom, layoutOf}
 use Rattle.section.specs.Meaning.{Function, shapeOf, functionsOf}
 use Rattle.section.specs.Shape.{abiOf, shape}
 use Rattle.section.specs.declared.row.Row.{Row}
-use Rattle.section.proofs.ListedLaws.{functions-length}
-use Rattle.lookup.specs.Answers.{withRow, withCover, outcome, answer, answerOf}
-use Rattle.lookup.specs.Covering.{covers, coveringFrom, covering, coverOf}
-use Rattle.lookup.specs.Finding.{Finding, finds, refuses, findingOf, lookIn}
-use Rattle.lookup.specs.Halving.{noFunction}
-use Rattle.lookup.specs.Rows.{rowFor}
+use Rattle.lookup.specs.Finding.{Finding, finds, refuses, findingOf}
+use Rattle.lookup.specs.Halving.{emptyFunction}
+use Rattle.lookup.specs.computed.Answers.{withRow, withCover, outcome, answer, answerOf, lookIn}
+use Rattle.lookup.specs.computed.Covering.{covers, coveringFrom, covering, coverOf}
+use Rattle.lookup.specs.computed.Rows.{rowFor}
 use Rattle.lookup.specs.declared.rows.Scan.{Scan}
 use Rattle.lookup.specs.declared.rows.Scan.the-variants.{Missed, Hit}
 use Rattle.lookup.proofs.CoveringLaws.{by-value}
-use Rattle.promises.specs.Deciding.{byParts, Row-discrete, Function-discrete}
 use Rattle.promises.specs.SameFunctions.{SameFunctions}
+use Rattle.promises.specs.inner.Deciding.{byParts, Row-discrete, Function-discrete}
 
 -- ---- the same functions in another order
 
@@ -39,10 +38,6 @@ length-kept List·Permᴰ·nil = refl
 length-kept (List·Permᴰ·cons e p) = ap suc (length-kept p)
 length-kept (List·Permᴰ·swap e e′) = refl
 length-kept (List·Permᴰ·trans p q) = length-kept p ∙ length-kept q
-
-pub same-size : (s t : List ℕ) → SameFunctions s t → layoutOf s .functions ≡ layoutOf t .functions
-same-size s t same =
-    sym (functions-length s) ∙ ∥∥₁-elim (same-reordered same) (hedberg ℕ-discrete _ _) length-kept ∙ functions-length t
 
 -- ---- what is found goes by the functions that cover
 
@@ -64,16 +59,16 @@ no-index i j (Hit row number) = refl
 module _ (d : ℤ) (all : List Function) where
   -- function i covers, and then those of the rest that do
   one-found : (i from : ℕ) (fs : List Function)
-      → findingOf (withCover d all (coverOf (i ∷ coveringFrom d from fs))) ≡ findingAmong d (getD all i noFunction ∷ coveringFunctions d fs)
+      → findingOf (withCover d all (coverOf (i ∷ coveringFrom d from fs))) ≡ findingAmong d (getD all i emptyFunction ∷ coveringFunctions d fs)
   unfolding findingOf withCover coverOf coveringFrom findingAmong
-  one-found i from [] = no-index i 0 (rowFor d (getD all i noFunction))
+  one-found i from [] = no-index i 0 (rowFor d (getD all i emptyFunction))
   one-found i from (f ∷ fs) =
       by-value (covers d f)
       (λ e. rw (e, coveringFrom))
       (λ e. rw (e, coveringFrom) (one-found i (suc from) fs))
 
   -- fs is what stands in the list from index `from` on
-  found-from : (from : ℕ) (fs : List Function) → ((k : ℕ) → getD all (from + k) noFunction ≡ getD fs k noFunction)
+  found-from : (from : ℕ) (fs : List Function) → ((k : ℕ) → getD all (from + k) emptyFunction ≡ getD fs k emptyFunction)
       → findingOf (withCover d all (coverOf (coveringFrom d from fs))) ≡ findingAmong d (coveringFunctions d fs)
   unfolding findingOf withCover coverOf coveringFrom findingAmong
   found-from from [] stands = refl
@@ -82,11 +77,11 @@ module _ (d : ℤ) (all : List Function) where
       (λ e.
       rw (e, coveringFrom)
       (one-found from (suc from) fs ∙ ap (λ g. findingAmong d (g ∷ coveringFunctions d fs)) (rw add-zero at (stands 0))))
-      (λ e. rw (e, coveringFrom) (found-from (suc from) fs λ k. ap (λ j. getD all j noFunction) (omega arith) ∙ stands (suc k)))
+      (λ e. rw (e, coveringFrom) (found-from (suc from) fs λ k. ap (λ j. getD all j emptyFunction) (omega arith) ∙ stands (suc k)))
 
 finding-among : (d : ℤ) (fs : List Function) → findingOf (outcome d fs) ≡ findingAmong d (coveringFunctions d fs)
 unfolding outcome covering
-finding-among d fs = found-from d fs 0 fs (λ k. ap (λ j. getD fs j noFunction) (zero-add k))
+finding-among d fs = found-from d fs 0 fs (λ k. ap (λ j. getD fs j emptyFunction) (zero-add k))
 
 -- ---- and not by their order
 

@@ -6,40 +6,40 @@ use Prim.Native.Nat.{ℕ, _<_}
 use native.Mathlib.Omega.{arith}
 use contract.Lifetimes.{Lfts}
 use Rattle.numbers.specs.declared.field.Order.the-variants.{Little}
+use Rattle.numbers.proofs.field.field_at.Reads as field_at-reads
+use Rattle.numbers.proofs.field.u16_at.Reads as u16_at-reads
+use Rattle.numbers.proofs.field.u32_at.Reads as u32_at-reads
+use Rattle.numbers.proofs.field.u64_at.Reads as u64_at-reads
+use Rattle.numbers.proofs.field.u8_at.Reads as u8_at-reads
+use Rattle.numbers.proofs.field.width_of.Reads as width_of-reads
+use Rattle.numbers.proofs.offset.offset_at.Reads as offset_at-reads
+use Rattle.numbers.proofs.offset.offset_of.Reads as offset_of-reads
 use Rattle.section.specs.Entry.{typeOf}
 use Rattle.section.specs.Header.{layoutOf}
 use Rattle.section.specs.Meaning.{areaOf, shapeOf, entryIn}
 use Rattle.section.specs.SectionS.{sectionS}
-use Rattle.lookup.specs.Opened.{lookupOpened}
-use Rattle.caller.specs.declared.registers.Registers.{Registers}
-use Rattle.caller.specs.declared.registers.Where.{Where}
-use Rattle.trace.specs.declared.answer.Frame.{Frame}
-use Rattle.promises.specs.Lent.{Lies, lent}
-use Rattle.numbers.proofs.field.u8_at.Reads as u8_at-reads
-use Rattle.numbers.proofs.field.u16_at.Reads as u16_at-reads
-use Rattle.numbers.proofs.field.u32_at.Reads as u32_at-reads
-use Rattle.numbers.proofs.field.u64_at.Reads as u64_at-reads
-use Rattle.numbers.proofs.field.width_of.Reads as width_of-reads
-use Rattle.numbers.proofs.field.field_at.Reads as field_at-reads
-use Rattle.numbers.proofs.offset.offset_of.Reads as offset_of-reads
-use Rattle.numbers.proofs.offset.offset_at.Reads as offset_at-reads
 use Rattle.section.proofs.entry.entry_at.Reads as entry_at-reads
 use Rattle.section.proofs.header.bit_of.Reads as bit_of-reads
-use Rattle.section.proofs.header.magic_in.Reads as magic_in-reads
-use Rattle.section.proofs.header.order_at.Reads as order_at-reads
-use Rattle.section.proofs.header.marks_at.Reads as marks_at-reads
-use Rattle.section.proofs.header.sizes_at.Reads as sizes_at-reads
 use Rattle.section.proofs.header.layout_at.Reads as layout_at-reads
+use Rattle.section.proofs.header.magic_in.Reads as magic_in-reads
+use Rattle.section.proofs.header.marks_at.Reads as marks_at-reads
+use Rattle.section.proofs.header.order_at.Reads as order_at-reads
+use Rattle.section.proofs.header.sizes_at.Reads as sizes_at-reads
 use Rattle.section.proofs.row.info_at.Reads as info_at-reads
-use Rattle.section.proofs.row.row_length.Reads as row_length-reads
 use Rattle.section.proofs.row.row_at.Reads as row_at-reads
+use Rattle.section.proofs.row.row_length.Reads as row_length-reads
 use Rattle.accept.proofs.row_check.check_rows.Reads as check_rows-reads
+use Rattle.lookup.specs.inner.Opened.{lookupOpened}
 use Rattle.lookup.proofs.look.look.Reads as look-reads
 use Rattle.lookup.proofs.rows.scan_rows.Reads as scan_rows-reads
 use Rattle.lookup.proofs.search.find.Reads as find-reads
 use Rattle.lookup.proofs.table.entry_in.Reads as entry_in-reads
+use Rattle.caller.specs.declared.registers.Registers.{Registers}
+use Rattle.caller.specs.declared.registers.Where.{Where}
 use Rattle.caller.proofs.registers.Registers.step_checked.Reads as step_checked-reads
+use Rattle.trace.specs.declared.answer.Frame.{Frame}
 use Rattle.trace.proofs.answer.write_frame.Reads as write_frame-reads
+use Rattle.promises.specs.inner.Lent.{Lies, lent}
 
 -- ---- numbers
 

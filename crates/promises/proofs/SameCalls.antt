@@ -7,7 +7,7 @@ use Rattle.caller.specs.declared.registers.Registers.{Registers}
 use Rattle.caller.specs.declared.registers.Where.{Where}
 use Rattle.promises.specs.Calls.{CallsOf}
 
-pub same-calls : {Checks Looks Steps Traces : Type 0} (calls other : CallsOf Checks Looks Steps Traces)
+pub same-calls : {Checks Looks Steps TraceCase : Type 0} (calls other : CallsOf Checks Looks Steps TraceCase)
     → ((s : List ℕ) → calls .check s ≡ other .check s)
     → ((s : List ℕ) (address pc : ℕ) → calls .lookup s address pc ≡ other .lookup s address pc)
     → ((s stack : List ℕ) (lies : Where) (registers : Registers) → calls .step s stack lies registers ≡ other .step s stack lies registers)

@@ -9,18 +9,20 @@ use mathlib.Core.Logic.{∥∥₁-elim, ⊎-elim}
 use Prim.Native.Nat.{ℕ}
 use native.Mathlib.Omega.{arith}
 use lib.ListN.{length}
-use Rattle.numbers.specs.Held.{natural}
+use Rattle.numbers.specs.inner.Held.{natural}
 use Rattle.section.specs.Header.{marksOf, layoutOf}
 use Rattle.section.specs.Meaning.{Function, functionIn, functionsOf}
 use Rattle.section.specs.SectionS.{sectionS}
 use Rattle.section.specs.declared.row.Row.{Row}
-use Rattle.accept.specs.Checks.{verdict}
 use Rattle.accept.specs.Rules.{rowInfoAt}
+use Rattle.accept.specs.computed.Checks.{verdict}
 use Rattle.accept.specs.declared.verdict.Verdict.the-variants.{Accepted}
-use Rattle.lookup.specs.Opened.{lookupOpened}
-use Rattle.promises.specs.Deciding.{Function-discrete}
+use Rattle.lookup.specs.inner.Opened.{lookupOpened}
+use Rattle.promises.specs.Demand3.{Alike}
 use Rattle.promises.specs.Listings.{plainFunction, repeatedFunction, shiftedFunction, sortedListing, otherListing, changedListing, shuffledS, zeroRowless, zeroWithRow, sizedEntry, zeroListing, zerosListed, zerosExchanged, uncounted}
 use Rattle.promises.specs.SameFunctions.{SameFunctions}
+use Rattle.promises.specs.computed.Ours.{ours}
+use Rattle.promises.specs.inner.Deciding.{Function-discrete}
 use Rattle.promises.proofs.OrderLaws.{same-reordered}
 
 -- ---- all three are accepted
@@ -126,6 +128,10 @@ repeated-entries-differ = (refl, refl)
 
 -- ---- section S
 
+s-accepted : verdict sectionS ≡ Accepted
+unfolding lookupOpened sectionS
+s-accepted = refl
+
 pub shuffled-accepted : verdict shuffledS ≡ Accepted
 unfolding lookupOpened shuffledS
 shuffled-accepted = refl
@@ -168,3 +174,17 @@ exchanged-zeros = refl
 pub zeros-same : SameFunctions zerosListed zerosExchanged
 unfolding lookupOpened zeroRowless zeroWithRow sizedEntry zeroListing zerosListed zerosExchanged
 zeros-same = exchanged (functionIn zerosListed 0) (functionIn zerosListed 1) (functionIn zerosListed 2 ∷ []) refl listed-zeros exchanged-zeros
+
+-- ---- so there are sections of which demand 3 speaks: one sorted and one not, on each machine, and two sorted ones in different orders
+
+pub listings-alike : Alike ours sortedListing otherListing
+unfolding ours
+listings-alike = record { accepted = sorted-accepted; also = other-accepted; same = listings-same }
+
+pub shuffled-alike : Alike ours sectionS shuffledS
+unfolding ours
+shuffled-alike = record { accepted = s-accepted; also = shuffled-accepted; same = shuffled-same }
+
+pub zeros-alike : Alike ours zerosListed zerosExchanged
+unfolding ours
+zeros-alike = record { accepted = zeros-accepted .0; also = zeros-accepted .1; same = zeros-same }

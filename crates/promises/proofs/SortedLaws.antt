@@ -1,5 +1,5 @@
 -- Two sorted sections that list the same functions compare equally many entries. Functions of size 0 may change places in them, but
--- the startsOf, which is all that the halvingOf reads, are the same list: both rise, and one is the other in some order.
+-- the starts, which are all that the halving reads, are the same list: both rise, and one is the other in some order.
 -- Assumes nothing.
 use mathlib.Core.Path.{_≡_, sym, _∙_, ap, fun-ext}
 use mathlib.Core.Bool.{true}
@@ -13,29 +13,29 @@ use lib.ListN.{length, getD, length-map, List·getD-map}
 use lib.Signed.{_≤ℤ_, leZ, ≤ℤ-refl}
 use Rattle.section.specs.Header.{layoutOf}
 use Rattle.section.specs.Meaning.{Function, listed, functionIn, functionsOf}
-use Rattle.accept.specs.Checks.{verdict}
 use Rattle.accept.specs.Rules.{functionCount}
+use Rattle.accept.specs.computed.Checks.{verdict}
 use Rattle.accept.specs.declared.verdict.Verdict.the-variants.{Accepted}
 use Rattle.accept.proofs.AcceptedLaws.{accepted-laws, pass-on, no-less}
-use Rattle.lookup.specs.Halving.{halve, noFunction, startsAtMost, landing}
+use Rattle.lookup.specs.Halving.{halve, emptyFunction, startsAtMost, landing}
 use Rattle.lookup.specs.declared.search.Landing.{Landing}
 use Rattle.promises.specs.SameFunctions.{SameFunctions}
 use Rattle.promises.proofs.OrderLaws.{same-reordered}
 
--- ---- the halvingOf goes by the startsOf
+-- ---- the halving goes by the starts
 
 abbrev pub startsOf : List Function → List ℤ
 startsOf fs = map (λ f. f .start) fs
 
 halvingOf : ℤ → List ℤ → Landing
-halvingOf d zs = halve (λ i. leZ (getD zs i (noFunction .start)) d) (length zs) 0 (length zs) 0
+halvingOf d zs = halve (λ i. leZ (getD zs i (emptyFunction .start)) d) (length zs) 0 (length zs) 0
 
 landing-by-starts : (d : ℤ) (fs : List Function) → landing d fs ≡ halvingOf d (startsOf fs)
 unfolding landing startsAtMost halvingOf
 landing-by-starts d fs =
     rw (length-map fs (λ f. f .start))
     (ap (λ atMost. halve atMost (length fs) 0 (length fs) 0)
-    (fun-ext λ i. ap (λ z. leZ z d) (sym (List·getD-map (λ f. f .start) fs i noFunction))))
+    (fun-ext λ i. ap (λ z. leZ z d) (sym (List·getD-map (λ f. f .start) fs i emptyFunction))))
 
 -- ---- two rising lists of the same numbers
 
@@ -67,7 +67,7 @@ rising-same (y ∷ ys) (z ∷ zs) rises rises′ p =
     let rest : ys ≡ zs = rising-same ys zs (Pairwise·of-cons rises) (Pairwise·of-cons rises′) left in
     cc
 
--- ---- the startsOf of an accepted sorted section rise
+-- ---- the starts of an accepted sorted section rise
 
 module _ (f : ℕ → Function) where
   all-later : (low : ℤ) (count from : ℕ) → ((j : ℕ) → from ≤ j → j < from + count → low ≤ℤ f j .start)

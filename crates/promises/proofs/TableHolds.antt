@@ -4,9 +4,9 @@
 use mathlib.Core.Path.{refl}
 use Prim.Native.Nat.{ℕ}
 use Rattle.section.specs.SectionS.{sectionS, overlappingS, unsortedS, atEntry, withFrame}
-use Rattle.trace.specs.Opened.{traceOpened}
-use Rattle.promises.specs.Calls.{ours}
+use Rattle.trace.specs.inner.Opened.{traceOpened}
 use Rattle.promises.specs.Table.{replyTo, Holds, loaded, at, stackWindow, crashed, agreed, table, littleLeaf, bigLeaf, inLeaf, ofLeaf, aarch64Table}
+use Rattle.promises.specs.computed.Ours.{ours}
 
 pub table-holds : (lr first a b c d e f : ℕ) → Holds ours (table lr first a b c d e f)
 unfolding traceOpened sectionS overlappingS unsortedS atEntry withFrame ours replyTo loaded at stackWindow crashed agreed table

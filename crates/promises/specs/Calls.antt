@@ -2,15 +2,12 @@
 -- well. Each demand is a predicate of such calls, so that it can be met and can be broken.
 use mathlib.Core.List.{List}
 use Prim.Native.Nat.{ℕ}
-use Rattle.accept.specs.Checks.{verdict}
 use Rattle.accept.specs.declared.verdict.Verdict.{Verdict}
-use Rattle.lookup.specs.Answers.{lookupOf}
 use Rattle.lookup.specs.declared.answer.Answer.{Answer}
-use Rattle.caller.specs.Caller.{stepIn}
 use Rattle.caller.specs.declared.registers.Registers.{Registers}
 use Rattle.caller.specs.declared.registers.Step.{Step}
 use Rattle.caller.specs.declared.registers.Where.{Where}
-use Rattle.trace.specs.Trace.{Trace, traceOf}
+use Rattle.trace.specs.Frames.{TraceReply}
 
 -- by what each of the four replies with
 pub record CallsOf (Checks Looks Steps Traces : Type 0) : Type 0 where
@@ -24,8 +21,4 @@ pub record CallsOf (Checks Looks Steps Traces : Type 0) : Type 0 where
   pub trace : List ℕ → List ℕ → Where → Registers → ℕ → List ℕ → Traces
 
 abbrev pub Calls : Type 0
-Calls = CallsOf Verdict Answer Step Trace
-
--- what the contracts of our four functions name
-unfoldable pub ours : Calls
-ours = record { check = verdict; lookup = lookupOf; step = stepIn; trace = traceOf }
+Calls = CallsOf Verdict Answer Step TraceReply

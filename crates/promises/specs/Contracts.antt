@@ -14,7 +14,7 @@ use Rattle.lookup.proofs.look.lookup.Kinds as lookup-kinds
 use Rattle.lookup.proofs.look.lookup.Reads as lookup-reads
 use Rattle.caller.proofs.registers.Registers.step.Kinds as step-kinds
 use Rattle.caller.proofs.registers.Registers.step.Reads as step-reads
-use Rattle.trace.specs.Trace.{Trace, tracedAs}
+use Rattle.trace.specs.Frames.{TraceReply, tracedAs}
 use Rattle.trace.proofs.walk.trace.Kinds as trace-kinds
 use Rattle.trace.proofs.walk.trace.Reads as trace-reads
 use Rattle.promises.specs.Calls.{Calls}
@@ -24,14 +24,14 @@ use Rattle.promises.specs.Determined.{Allows}
 
 module _ (κs : Lfts 1) (a : Dens κs check-kinds.ps) where
   abbrev pub CheckAllows : resT check-kinds.r κs .Denot → Type 0
-  CheckAllows z = Allows check-kinds.ps check-kinds.r check-reads.Post κs a z (tt, tt)
+  CheckAllows z = Allows check-kinds.ps check-kinds.r check-reads.Learnt κs a z (tt, tt)
 
   abbrev pub checkReply : Calls → resT check-kinds.r κs .Denot
   checkReply calls = calls .check (now (a .0))
 
 module _ (κs : Lfts 1) (a : Dens κs lookup-kinds.ps) where
   abbrev pub LookupAllows : resT lookup-kinds.r κs .Denot → Type 0
-  LookupAllows z = Allows lookup-kinds.ps lookup-kinds.r lookup-reads.Post κs a z (tt, (tt, (tt, tt)))
+  LookupAllows z = Allows lookup-kinds.ps lookup-kinds.r lookup-reads.Learnt κs a z (tt, (tt, (tt, tt)))
 
   abbrev pub lookupReply : Calls → resT lookup-kinds.r κs .Denot
   lookupReply calls = calls .lookup (now (a .0)) (a .1 .0) (a .1 .1 .0)
@@ -39,7 +39,7 @@ module _ (κs : Lfts 1) (a : Dens κs lookup-kinds.ps) where
 -- the registers stand first: "Registers go in by value"
 module _ (κs : Lfts 2) (a : Dens κs step-kinds.ps) where
   abbrev pub StepAllows : resT step-kinds.r κs .Denot → Type 0
-  StepAllows z = Allows step-kinds.ps step-kinds.r step-reads.Post κs a z (tt, (tt, (tt, (tt, tt))))
+  StepAllows z = Allows step-kinds.ps step-kinds.r step-reads.Learnt κs a z (tt, (tt, (tt, (tt, tt))))
 
   abbrev pub stepReply : Calls → resT step-kinds.r κs .Denot
   stepReply calls = calls .step (now (a .1 .0)) (now (a .1 .1 .0)) (a .1 .1 .1 .0) (a .0)
@@ -47,9 +47,9 @@ module _ (κs : Lfts 2) (a : Dens κs step-kinds.ps) where
 -- a trace's contract allows a reply with the words that the buffer, the last argument, holds at exit
 module _ (κs : Lfts 3) (a : Dens κs trace-kinds.ps) where
   abbrev pub TraceAllows : resT trace-kinds.r κs .Denot → List ℕ → Type 0
-  TraceAllows z words = Allows trace-kinds.ps trace-kinds.r trace-reads.Post κs a z (tt, (tt, (tt, (tt, (tt, (words, tt))))))
+  TraceAllows z words = Allows trace-kinds.ps trace-kinds.r trace-reads.Learnt κs a z (tt, (tt, (tt, (tt, (tt, (words, tt))))))
 
-  abbrev pub traceReply : Calls → Trace
+  abbrev pub traceReply : Calls → TraceReply
   traceReply calls =
       calls .trace (now (a .0)) (now (a .1 .0)) (a .1 .1 .0) (a .1 .1 .1 .0) (a .1 .1 .1 .1 .0) (now (a .1 .1 .1 .1 .1 .0))
 

@@ -5,7 +5,7 @@ use mathlib.Core.Path.{_≡_}
 use mathlib.Core.Bool.{true, false}
 use mathlib.Core.List.{List}
 use Prim.Native.Nat.{ℕ, _+_, _^_, _≤_, _<_}
-use Rattle.numbers.specs.Held.{distance}
+use Rattle.numbers.specs.Start.{distance}
 use Rattle.section.specs.Header.{layoutOf}
 use Rattle.section.specs.Meaning.{functionsOf}
 use Rattle.accept.specs.Rules.{functionCount}

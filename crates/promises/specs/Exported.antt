@@ -7,28 +7,29 @@ use Prim.Native.Nat.{ℕ}
 use borrow.Fn.Kinds.{Dens, resT}
 use contract.Lifetimes.{Lfts}
 use denote.Ref.{now}
-use Rattle.suntimpani.specs.Flat.{flatVerdict, flatAnswer, flatStep, Handed, walkedAs, flatTrace}
+use Rattle.suntimpani.specs.Flat.{flatVerdict, flatAnswer, flatStep, Handed, handedAs, flatTrace}
 use Rattle.suntimpani.specs.Read.{readVerdict, readAnswer, readStep, readTrace}
-use Rattle.suntimpani.specs.declared.flat.Checked.{Checked}
-use Rattle.suntimpani.specs.declared.flat.Looked.{Looked}
-use Rattle.suntimpani.specs.declared.walks.Stepped.{Stepped}
+use Rattle.suntimpani.specs.declared.flat.AnswerInC.{AnswerInC}
+use Rattle.suntimpani.specs.declared.flat.VerdictInC.{VerdictInC}
+use Rattle.suntimpani.specs.declared.walks.StepInC.{StepInC}
+use Rattle.suntimpani.proofs.suntimpani_caller.Kinds as step-kinds
+use Rattle.suntimpani.proofs.suntimpani_caller.Reads as step-reads
 use Rattle.suntimpani.proofs.suntimpani_check.Kinds as check-kinds
 use Rattle.suntimpani.proofs.suntimpani_check.Reads as check-reads
 use Rattle.suntimpani.proofs.suntimpani_lookup.Kinds as lookup-kinds
 use Rattle.suntimpani.proofs.suntimpani_lookup.Reads as lookup-reads
-use Rattle.suntimpani.proofs.suntimpani_caller.Kinds as step-kinds
-use Rattle.suntimpani.proofs.suntimpani_caller.Reads as step-reads
 use Rattle.suntimpani.proofs.suntimpani_trace.Kinds as trace-kinds
 use Rattle.suntimpani.proofs.suntimpani_trace.Reads as trace-reads
-use Rattle.promises.specs.Calls.{CallsOf, Calls, ours}
+use Rattle.promises.specs.Calls.{CallsOf, Calls}
 use Rattle.promises.specs.Determined.{Allows}
 use Rattle.promises.specs.Promises.{Demands}
+use Rattle.promises.specs.computed.Ours.{ours}
 
 -- ---- any four flat calls
 
 -- a trace with the words left in the buffer
 abbrev pub FlatCalls : Type 0
-FlatCalls = CallsOf Checked Looked Stepped Handed
+FlatCalls = CallsOf VerdictInC AnswerInC StepInC Handed
 
 -- what the structs stand for
 unfoldable pub readCalls : FlatCalls → Calls
@@ -58,28 +59,28 @@ exported = flatCalls ours
 
 module _ (κs : Lfts 1) (a : Dens κs check-kinds.ps) where
   abbrev pub FlatCheckAllows : resT check-kinds.r κs .Denot → Type 0
-  FlatCheckAllows z = Allows check-kinds.ps check-kinds.r check-reads.Post κs a z (tt, tt)
+  FlatCheckAllows z = Allows check-kinds.ps check-kinds.r check-reads.Learnt κs a z (tt, tt)
 
   abbrev pub flatCheckReply : FlatCalls → resT check-kinds.r κs .Denot
   flatCheckReply flat = flat .check (now (a .0))
 
 module _ (κs : Lfts 1) (a : Dens κs lookup-kinds.ps) where
   abbrev pub FlatLookupAllows : resT lookup-kinds.r κs .Denot → Type 0
-  FlatLookupAllows z = Allows lookup-kinds.ps lookup-kinds.r lookup-reads.Post κs a z (tt, (tt, (tt, tt)))
+  FlatLookupAllows z = Allows lookup-kinds.ps lookup-kinds.r lookup-reads.Learnt κs a z (tt, (tt, (tt, tt)))
 
   abbrev pub flatLookupReply : FlatCalls → resT lookup-kinds.r κs .Denot
   flatLookupReply flat = flat .lookup (now (a .0)) (a .1 .0) (a .1 .1 .0)
 
 module _ (κs : Lfts 2) (a : Dens κs step-kinds.ps) where
   abbrev pub FlatStepAllows : resT step-kinds.r κs .Denot → Type 0
-  FlatStepAllows z = Allows step-kinds.ps step-kinds.r step-reads.Post κs a z (tt, (tt, (tt, (tt, tt))))
+  FlatStepAllows z = Allows step-kinds.ps step-kinds.r step-reads.Learnt κs a z (tt, (tt, (tt, (tt, tt))))
 
   abbrev pub flatStepReply : FlatCalls → resT step-kinds.r κs .Denot
   flatStepReply flat = flat .step (now (a .0)) (now (a .1 .0)) (a .1 .1 .0) (a .1 .1 .1 .0)
 
 module _ (κs : Lfts 3) (a : Dens κs trace-kinds.ps) where
   abbrev pub FlatTraceAllows : resT trace-kinds.r κs .Denot → List ℕ → Type 0
-  FlatTraceAllows z words = Allows trace-kinds.ps trace-kinds.r trace-reads.Post κs a z (tt, (tt, (tt, (tt, (tt, (words, tt))))))
+  FlatTraceAllows z words = Allows trace-kinds.ps trace-kinds.r trace-reads.Learnt κs a z (tt, (tt, (tt, (tt, (tt, (words, tt))))))
 
   abbrev pub flatTraceReply : FlatCalls → Handed
   flatTraceReply flat =
@@ -104,7 +105,7 @@ pub record FlatGivenBy (flat : FlatCalls) : Type 0 where
   pub step : (κs : Lfts 2) (a : Dens κs step-kinds.ps) (z : resT step-kinds.r κs .Denot)
       → FlatStepAllows κs a z ↔ (z ≡ flatStepReply κs a flat)
   pub trace : (κs : Lfts 3) (a : Dens κs trace-kinds.ps) (z : resT trace-kinds.r κs .Denot) (words : List ℕ)
-      → FlatTraceAllows κs a z words ↔ (walkedAs z words ≡ flatTraceReply κs a flat)
+      → FlatTraceAllows κs a z words ↔ (handedAs z words ≡ flatTraceReply κs a flat)
 
 -- ---- what is promised of them
 

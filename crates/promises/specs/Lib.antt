@@ -1,15 +1,15 @@
 pub mod Calls
 pub mod Contracts
-pub mod Deciding
 pub mod Demand1
 pub mod Demand2
 pub mod Demand3
 pub mod Determined
 pub mod Exported
-pub mod Lent
 pub mod Listings
 pub mod Promises
 pub mod Refusals
 pub mod SameFunctions
 pub mod Table
 pub mod Wrong
+pub mod computed
+pub mod inner

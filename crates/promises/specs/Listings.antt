@@ -10,7 +10,7 @@ use Rattle.numbers.specs.Field.{fieldOf}
 use Rattle.section.specs.Entry.{typeOf}
 use Rattle.section.specs.Header.{bitOf, orderOf}
 use Rattle.section.specs.Meaning.{plain, repeated, Function, entryIn}
-use Rattle.section.specs.Row.{sizeOf}
+use Rattle.section.specs.Row.{offsetSizeOf}
 use Rattle.section.specs.declared.row.Base.the-variants.{Fp, Sp}
 use Rattle.section.specs.declared.row.Place.the-variants.{Register, AtOffset}
 use Rattle.accept.specs.Rules.{rowInfoAt}
@@ -167,7 +167,7 @@ unfoldable pub uncounted : List ℕ → ℕ → Uncounted
 uncounted s i =
     record {
       type = typeOf (entryIn s i .info);
-      size = sizeOf (rowInfoAt s i 0);
+      size = offsetSizeOf (rowInfoAt s i 0);
       key = bitOf 5 (entryIn s i .info);
       padding = fieldOf s (entryIn s i .place + 18) 2 (orderOf s);
       first = entryIn s i .first;

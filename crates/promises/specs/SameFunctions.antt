@@ -6,7 +6,7 @@ use mathlib.Core.Nat as Counted
 use Prim.Native.Nat.{ℕ}
 use Rattle.section.specs.Header.{marksOf}
 use Rattle.section.specs.Meaning.{Function, functionsOf}
-use Rattle.promises.specs.Deciding.{Function-discrete}
+use Rattle.promises.specs.inner.Deciding.{Function-discrete}
 
 -- "each function stands equally often in both"
 abbrev pub howOften : Function → List ℕ → Counted.ℕ

@@ -13,7 +13,7 @@ use Rattle.caller.specs.declared.registers.Registers.{Registers}
 use Rattle.caller.specs.declared.registers.Step.{Step}
 use Rattle.caller.specs.declared.registers.Step.the-variants as step
 use Rattle.caller.specs.declared.registers.Where.{Where}
-use Rattle.trace.specs.Trace.{Trace, tracedAs}
+use Rattle.trace.specs.Frames.{TraceReply, tracedAs}
 use Rattle.trace.specs.declared.answer.Ending.the-variants as ending
 use Rattle.promises.specs.Calls.{Calls}
 
@@ -32,7 +32,7 @@ pub data Reply : Type 0 where
   aVerdict : Verdict → Reply
   anAnswer : Answer → Reply
   aStep : Step → Reply
-  aTrace : Trace → Reply
+  aTrace : TraceReply → Reply
 
 pub record Agreed : Type 0 where
   pub section : List ℕ

@@ -1,19 +1,24 @@
 -- Document 01, "What each call must say": the wrong calls that are "Shown to break". Each is a property of any four calls, so that it
 -- does not matter what the others of the four answer, with calls that have it.
 use mathlib.Core.Path.{_≡_}
-use mathlib.Core.List.{List, _∷_}
-use Prim.Native.Nat.{ℕ}
+use mathlib.Core.Bool.{Bool, true, false}
+use mathlib.Core.List.{List, [], _∷_}
+use Prim.Native.Nat.{ℕ, suc}
+use lib.Dec.{eqb}
 use lib.ListN.{length, getD, take, replicate}
 use Rattle.section.specs.declared.row.Row.{Row}
-use Rattle.accept.specs.Checks.{verdict}
+use Rattle.accept.specs.computed.Checks.{verdict}
 use Rattle.accept.specs.declared.verdict.Verdict.the-variants as verdict
-use Rattle.lookup.specs.Answers.{lookupOf, outcomeNumber}
+use Rattle.lookup.specs.Numbers.{outcomeNumber}
+use Rattle.lookup.specs.computed.Answers.{lookupOf}
 use Rattle.lookup.specs.declared.answer.Outcome.the-variants.{Found, NoFunction}
-use Rattle.caller.specs.Caller.{stepIn}
+use Rattle.caller.specs.computed.Caller.{stepIn}
 use Rattle.caller.specs.declared.registers.Registers.{Registers}
 use Rattle.caller.specs.declared.registers.Where.{Where}
 use Rattle.trace.specs.Cases.{noFrame}
-use Rattle.trace.specs.Trace.{walkIn, tracedAs, allWords, over, traceOf}
+use Rattle.trace.specs.Frames.{tracedAs, allWords, over}
+use Rattle.trace.specs.Numbers.{endingNumber}
+use Rattle.trace.specs.computed.Trace.{walkIn, traceOf}
 use Rattle.trace.specs.declared.answer.Frame.{Frame}
 use Rattle.promises.specs.Calls.{Calls}
 
@@ -22,9 +27,9 @@ module _ (calls : Calls) where
   abbrev pub RefusesEverything : Type 0
   RefusesEverything = (s : List ℕ) → ¬ (calls .check s ≡ verdict.Accepted)
 
-  -- "a lookup with one fixed row": whatever it finds is this row
-  abbrev pub OneFixedRow : Row → Type 0
-  OneFixedRow row = (s : List ℕ) (address pc : ℕ) (found : Row) (i k : ℕ) → calls .lookup s address pc .outcome ≡ Found found i k → found ≡ row
+  -- "a lookup with one fixed row": whatever it finds in a section is this row, at every PC
+  abbrev pub OneFixedRow : (List ℕ → Row) → Type 0
+  OneFixedRow row = (s : List ℕ) (address pc : ℕ) (found : Row) (i k : ℕ) → calls .lookup s address pc .outcome ≡ Found found i k → found ≡ row s
 
   -- "or always 21"
   abbrev pub Always21 : Type 0
@@ -48,25 +53,32 @@ module _ (calls : Calls) where
       × (calls .trace s stack lies registers limit old .words
       ≡ over (allWords (replicate (calls .trace s stack lies registers limit old .answer .frames) frame)) old)
 
-  -- "or invents the others": they are these, whatever is handed in
-  abbrev pub InventsFrames : List Frame → Type 0
+  -- "or invents the others": they are these, by all that is handed in but the stack
+  abbrev pub InventsFrames : (List ℕ → Where → Registers → ℕ → List ℕ → List Frame) → Type 0
   InventsFrames made =
       (s stack : List ℕ) (lies : Where) (registers : Registers) (limit : ℕ) (old : List ℕ)
       → (frame : Frame)
       × (calls .trace s stack lies registers limit old .words
-      ≡ over (allWords (take (calls .trace s stack lies registers limit old .answer .frames) (frame ∷ made))) old)
+      ≡ over (allWords (take (calls .trace s stack lies registers limit old .answer .frames) (frame ∷ made s lies registers limit old))) old)
+
+  -- a trace that writes where it ends with this number; 41 to 43 and 1 to 15 "write nothing"
+  abbrev pub WritesOn : ℕ → Type 0
+  WritesOn number =
+      (s stack : List ℕ) (lies : Where) (registers : Registers) (limit : ℕ) (old : List ℕ)
+      → endingNumber (calls .trace s stack lies registers limit old .answer .ending) ≡ number
+      → ¬ (calls .trace s stack lies registers limit old .words ≡ old)
 
 -- ---- such calls: ours but for one
 
 unfoldable pub refusingEverything : Calls
 refusingEverything = record { check = λ s. verdict.Refused 1 0; lookup = lookupOf; step = stepIn; trace = traceOf }
 
--- this row, at every PC
-unfoldable pub findingOneRow : Row → Calls
+-- this row of a section, at every PC
+unfoldable pub findingOneRow : (List ℕ → Row) → Calls
 findingOneRow row =
     record {
       check = verdict;
-      lookup = λ s address pc. record { outcome = Found row 0 0; compared = lookupOf s address pc .compared };
+      lookup = λ s address pc. record { outcome = Found (row s) 0 0; compared = lookupOf s address pc .compared };
       step = stepIn;
       trace = traceOf;
     }
@@ -89,8 +101,8 @@ countingBy count =
       trace = traceOf;
     }
 
--- the answer is ours, the words are others, made of our frames and of what the buffer held
-unfoldable pub leaving : (List Frame → List ℕ → List ℕ) → Calls
+-- the answer is ours, the words are others
+unfoldable pub leaving : (List ℕ → List ℕ → Where → Registers → ℕ → List ℕ → List ℕ) → Calls
 leaving words =
     record {
       check = verdict;
@@ -98,14 +110,35 @@ leaving words =
       step = stepIn;
       trace =
           λ s stack lies registers limit old.
-          tracedAs (traceOf s stack lies registers limit old .answer) (words (walkIn s stack lies registers limit (length old) .frames) old);
+          tracedAs (traceOf s stack lies registers limit old .answer) (words s stack lies registers limit old);
     }
 
 unfoldable pub writingNothing : Calls
-writingNothing = leaving λ frames old. old
+writingNothing = leaving λ s stack lies registers limit old. old
+
+-- the frames of our walk
+abbrev pub framesOf : List ℕ → List ℕ → Where → Registers → ℕ → List ℕ → List Frame
+framesOf s stack lies registers limit old = walkIn s stack lies registers limit (length old) .frames
 
 unfoldable pub repeatingFrames : Calls
-repeatingFrames = leaving λ frames old. over (allWords (replicate (length frames) (getD frames 0 noFrame))) old
+repeatingFrames =
+    leaving λ s stack lies registers limit old.
+    let frames = framesOf s stack lies registers limit old in
+    over (allWords (replicate (length frames) (getD frames 0 noFrame))) old
 
-unfoldable pub inventingFrames : List Frame → Calls
-inventingFrames made = leaving λ frames old. over (allWords (take (length frames) (getD frames 0 noFrame ∷ made))) old
+unfoldable pub inventingFrames : (List ℕ → Where → Registers → ℕ → List ℕ → List Frame) → Calls
+inventingFrames made =
+    leaving λ s stack lies registers limit old.
+    let frames = framesOf s stack lies registers limit old in
+    over (allWords (take (length frames) (getD frames 0 noFrame ∷ made s lies registers limit old))) old
+
+-- where our trace ends with this number, the first word is another than it was
+unfoldable pub changedWhere : Bool → List ℕ → List ℕ → List ℕ
+changedWhere true old words = over (suc (getD old 0 0) ∷ []) old
+changedWhere false old words = words
+
+unfoldable pub writingOn : ℕ → Calls
+writingOn number =
+    leaving λ s stack lies registers limit old.
+    changedWhere (eqb (endingNumber (traceOf s stack lies registers limit old .answer .ending)) number) old
+    (traceOf s stack lies registers limit old .words)

@@ -75,6 +75,9 @@ fn show_ending(ending: Ending) {
         Ending::Refused(number) => {
             say_number(number);
         }
+        Ending::Shut(number) => {
+            say_number(number);
+        }
         Ending::Unsound { number, index } => {
             say_number(number);
             say(b" at ");

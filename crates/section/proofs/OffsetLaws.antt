@@ -6,10 +6,11 @@ use Prim.Native.Nat.{ℕ, _+_, _*_, _^_, _≤_, _<_}
 use native.Mathlib.Nat.{mul-le-mul, mul-le-mul-right, suc-mul}
 use native.Mathlib.Omega.{arith}
 use lib.Pow.{pow-mono}
-use Rattle.section.specs.Row.{infoOf, countOf, sizeOf, offsetsLength, rowLength, Readable, Announced}
+use Rattle.section.specs.Row.{infoOf, countOf, offsetSizeOf, offsetsLength, rowLength}
+use Rattle.section.specs.inner.Reading.{Readable, Announced}
 
-pub size-below : (info : ℕ) → sizeOf info ≤ 3
-unfolding sizeOf
+pub size-below : (info : ℕ) → offsetSizeOf info ≤ 3
+unfolding offsetSizeOf
 size-below info = omega arith
 
 count-below : (info : ℕ) → countOf info ≤ 15
@@ -27,9 +28,9 @@ unfolding rowLength
 row-below area code at h = omega (arith, pow-mono h, offsets-below (infoOf area code at))
 
 -- an offset that is announced ends within all of them
-pub offset-within : (info k : ℕ) → k < countOf info → k * 2 ^ sizeOf info + 2 ^ sizeOf info ≤ offsetsLength info
+pub offset-within : (info k : ℕ) → k < countOf info → k * 2 ^ offsetSizeOf info + 2 ^ offsetSizeOf info ≤ offsetsLength info
 unfolding offsetsLength
-offset-within info k h = rw (sym (suc-mul k (2 ^ sizeOf info))) (mul-le-mul-right (2 ^ sizeOf info) h)
+offset-within info k h = rw (sym (suc-mul k (2 ^ offsetSizeOf info))) (mul-le-mul-right (2 ^ offsetSizeOf info) h)
 
 -- the offsets of a row that is readable
 pub offsets-of : {area : List ℕ} {code at : ℕ} → Readable area code at → Announced area (infoOf area code at) (at + 2 ^ code + 1)

@@ -8,10 +8,10 @@ use native.Mathlib.Omega.{arith}
 use lib.IntN.{pos, negsuc}
 use lib.ListN.{set}
 use Rattle.section.specs.Meaning.{Block, plain, repeated, functionIn}
-use Rattle.section.specs.Opened.{sectionOpened}
 use Rattle.section.specs.Row.{rowOf}
 use Rattle.section.specs.Same.{offsetsIn, SameRow}
 use Rattle.section.specs.Shape.{shape}
+use Rattle.section.specs.inner.Opened.{sectionOpened}
 use Rattle.section.specs.declared.row.Place.{Place}
 use Rattle.section.specs.declared.row.Place.the-variants.{Register, AtOffset}
 use Rattle.section.specs.declared.shape.Abi.the-variants.{Aarch64Big, Aarch64Little, Amd64}

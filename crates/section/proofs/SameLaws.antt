@@ -15,8 +15,8 @@ use Rattle.numbers.specs.declared.field.Order.the-variants.{Little, Big}
 use Rattle.numbers.specs.declared.offset.Offset.{Offset}
 use Rattle.section.specs.Entry.{typeOf, repeats}
 use Rattle.section.specs.Header.{layoutOf}
-use Rattle.section.specs.Meaning.{Block, plain, repeated, areaOf, shapeOf, entryIn, blockOf, rowAt, rowIn, functionIn}
-use Rattle.section.specs.Row.{infoOf, baseOf, countOf, sizeOf, signedBit, rowStart, offsetIn, placeIn, raIn, rowOf}
+use Rattle.section.specs.Meaning.{Block, plain, repeated, areaOf, shapeOf, entryIn, blockOf, rowPlaceAt, rowIn, functionIn}
+use Rattle.section.specs.Row.{infoOf, baseOf, countOf, offsetSizeOf, signedBit, rowStart, offsetIn, placeIn, raIn, rowOf}
 use Rattle.section.specs.Same.{Allowed, offsetsIn, rowOffsets, SameRow, AllowedRows, SameFunction}
 use Rattle.section.specs.Shape.{aarch64Shape, amd64Shape, shape}
 use Rattle.section.specs.declared.entry.Entry.{Entry}
@@ -66,18 +66,18 @@ same-places (suc most) (x ∷ xs) (y ∷ ys) le le′ same =
 module _ (area : List ℕ) (order : Order) (info from : ℕ) where
   offsets-length : length (offsetsIn area order info from) ≡ countOf info
   unfolding offsetsIn
-  offsets-length = listed-length (offsetIn area order (sizeOf info) from) (countOf info) 0
+  offsets-length = listed-length (offsetIn area order (offsetSizeOf info) from) (countOf info) 0
 
-  offsets-at : (k : ℕ) (d : Offset) → k < countOf info → getD (offsetsIn area order info from) k d ≡ offsetIn area order (sizeOf info) from k
+  offsets-at : (k : ℕ) (d : Offset) → k < countOf info → getD (offsetsIn area order info from) k d ≡ offsetIn area order (offsetSizeOf info) from k
   unfolding offsetsIn
-  offsets-at = listed-at (offsetIn area order (sizeOf info) from) (countOf info)
+  offsets-at = listed-at (offsetIn area order (offsetSizeOf info) from) (countOf info)
 
   place-by : (k : ℕ) (test : Bool) → ltb k (countOf info) ≡ test
-      → (elim test [ true ↦ AtOffset (offsetIn area order (sizeOf info) from k) | false ↦ Register ])
+      → (elim test [ true ↦ AtOffset (offsetIn area order (offsetSizeOf info) from k) | false ↦ Register ])
       ≡ placeOf (offsetsIn area order info from) k
   place-by k true e =
       let lt : k < countOf info = ltb-true k (countOf info) e in
-      let d = offsetIn area order (sizeOf info) from k in
+      let d = offsetIn area order (offsetSizeOf info) from k in
       sym (place-inside _ k d (rw offsets-length lt) ∙ ap AtOffset (offsets-at k d lt))
   place-by k false e = sym (place-past _ k (rw offsets-length (ltb-false k (countOf info) e)))
 
@@ -89,7 +89,7 @@ module _ (area : List ℕ) (order : Order) (info from : ℕ) where
 
 -- RA's place: the fixed one, or the one that the second offset names
 raFrom : Shape → Place → Place
-raFrom shape second = elim (shape .rafixed) [ true ↦ AtOffset (shape .fixedra) | false ↦ second ]
+raFrom shape second = elim (shape .usesfixed) [ true ↦ AtOffset (shape .fixedra) | false ↦ second ]
 
 -- the CFA offset of no offsets at all is never used: such a count is not allowed
 rowFrom : Shape → ℕ → Base → List Offset → Bool → Row
@@ -99,7 +99,7 @@ rowFrom shape start base offsets signed =
       base = base;
       cfa = getD offsets 0 (shape .fixedra);
       ra = raFrom shape (placeOf offsets 1);
-      fp = placeOf offsets (shape .fp);
+      fp = placeOf offsets (shape .fpindex);
       signed = signed;
     }
 
@@ -119,8 +119,8 @@ row-from area shape code at some = simp (ra-in, place-in, offsets-at)
 
 data Told (shape : Shape) : ℕ → Type 0 where
   of-cfa : Told shape 0
-  of-ra : shape .rafixed ≡ false → Told shape 1
-  of-fp : Told shape (shape .fp)
+  of-ra : shape .usesfixed ≡ false → Told shape 1
+  of-fp : Told shape (shape .fpindex)
 
 told : {shape : Shape} {k : ℕ} → Told shape k → Row → Place
 told of-cfa row = AtOffset (row .cfa)
@@ -207,10 +207,10 @@ block-same one other = block-by (repeats (one .info)) (repeats (other .info)) (o
 
 -- row k of function i and row k of function j, of two sections of one ABI
 row-in-same : (s t : List ℕ) (i j k : ℕ) → layoutOf s .abi ≡ layoutOf t .abi
-    → Allowed (shapeOf s) (infoOf (areaOf s) (typeOf (entryIn s i .info)) (rowAt s i k))
-    → Allowed (shapeOf t) (infoOf (areaOf t) (typeOf (entryIn t j .info)) (rowAt t j k))
+    → Allowed (shapeOf s) (infoOf (areaOf s) (typeOf (entryIn s i .info)) (rowPlaceAt s i k))
+    → Allowed (shapeOf t) (infoOf (areaOf t) (typeOf (entryIn t j .info)) (rowPlaceAt t j k))
     → (rowIn (areaOf s) (shapeOf s) (entryIn s i) k ≡ rowIn (areaOf t) (shapeOf t) (entryIn t j) k)
-    ↔ SameRow (shapeOf s) (areaOf s) (typeOf (entryIn s i .info)) (rowAt s i k) (areaOf t) (typeOf (entryIn t j .info)) (rowAt t j k)
+    ↔ SameRow (shapeOf s) (areaOf s) (typeOf (entryIn s i .info)) (rowPlaceAt s i k) (areaOf t) (typeOf (entryIn t j .info)) (rowPlaceAt t j k)
 unfolding shapeOf rowIn
 row-in-same s t i j k abi one other = rw (← abi) (row-same (layoutOf s .abi) _ _ _ _ _ _ one (rw (← abi) at other))
 

@@ -4,7 +4,7 @@ use mathlib.Core.Bool.{Bool, true, false}
 use mathlib.Core.List.{List}
 use lib.IntN.{ℤ}
 use Rattle.numbers.specs.Field.{fieldOf, byteOf}
-use Rattle.numbers.specs.Held.{startAt}
+use Rattle.numbers.specs.Start.{startAt}
 use Rattle.numbers.specs.declared.field.Order.{Order}
 use Rattle.section.specs.Header.{bitOf}
 use Rattle.section.specs.declared.entry.Entry.{Entry}
@@ -32,9 +32,9 @@ unfoldable pub repeats : ℕ → Bool
 repeats info = bitOf 4 info
 
 -- "The effective start counts from the first byte of the section: the start field, plus the field's own position in the
--- section when flag 0x4 is set."
-unfoldable pub positionOf : Bool → Entry → ℕ
-positionOf relative entry = elim relative [ true ↦ entry .place | false ↦ 0 ]
+-- section when flag 0x4 is set.": what the start field at a place counts from, and the start of an entry
+unfoldable pub positionAt : Bool → ℕ → ℕ
+positionAt relative place = elim relative [ true ↦ place | false ↦ 0 ]
 
 unfoldable pub startOf : Bool → Entry → ℤ
-startOf relative entry = startAt (entry .start) (positionOf relative entry)
+startOf relative entry = startAt (entry .start) (positionAt relative (entry .place))

@@ -45,8 +45,8 @@ sizesOf s order =
       functions = fieldOf s 8 4 order;
       rows = fieldOf s 12 4 order;
       bytes = fieldOf s 16 4 order;
-      table = fieldOf s 20 4 order;
-      area = fieldOf s 24 4 order;
+      tableoffset = fieldOf s 20 4 order;
+      areaoffset = fieldOf s 24 4 order;
     }
 
 -- What is needed after check 8, by which the function table follows the auxiliary header and the row area follows the

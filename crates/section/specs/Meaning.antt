@@ -53,8 +53,8 @@ abbrev pub functionEnd : List ℕ → ℕ → ℤ
 functionEnd s i = functionStart s i +ℤ pos (entryIn s i .size)
 
 -- where row k of function i stands in the row area
-abbrev pub rowAt : List ℕ → ℕ → ℕ → ℕ
-rowAt s i k = rowPlace (areaOf s) (typeOf (entryIn s i .info)) (entryIn s i .first) k
+abbrev pub rowPlaceAt : List ℕ → ℕ → ℕ → ℕ
+rowPlaceAt s i k = rowPlace (areaOf s) (typeOf (entryIn s i .info)) (entryIn s i .first) k
 
 -- row k of an entry
 unfoldable pub rowIn : List ℕ → Shape → Entry → ℕ → Row

@@ -1,10 +1,9 @@
 -- Document 01, "Section bytes": "Row: start (unsigned), one info byte, then the offsets, signed." Rows stand in the row area,
 -- a list of its own; `code` is the row type of the function's entry, so that a start has 2 ^ code bytes.
-use Prim.Native.Nat.{ℕ, zero, suc, _+_, _*_, _^_, _/_, _%_, _≤_}
+use Prim.Native.Nat.{ℕ, zero, suc, _+_, _*_, _^_, _/_, _%_}
 use mathlib.Core.Bool.{Bool, true, false, _&&_}
 use mathlib.Core.List.{List}
 use lib.Dec.{ltb}
-use lib.ListN.{length}
 use Rattle.numbers.specs.Field.{fieldOf, byteOf}
 use Rattle.numbers.specs.Signed.{offsetOf}
 use Rattle.numbers.specs.declared.field.Order.{Order}
@@ -28,15 +27,15 @@ baseOf info = elim (bitOf 0 info) [ true ↦ Sp | false ↦ Fp ]
 unfoldable pub countOf : ℕ → ℕ
 countOf info = info / 2 % 16
 
-unfoldable pub sizeOf : ℕ → ℕ
-sizeOf info = info / 32 % 4
+unfoldable pub offsetSizeOf : ℕ → ℕ
+offsetSizeOf info = info / 32 % 4
 
 unfoldable pub signedBit : ℕ → Bool
 signedBit info = bitOf 7 info
 
 -- how many bytes the offsets have that an info byte announces
 unfoldable pub offsetsLength : ℕ → ℕ
-offsetsLength info = countOf info * 2 ^ sizeOf info
+offsetsLength info = countOf info * 2 ^ offsetSizeOf info
 
 -- how many bytes the row at `at` has
 unfoldable pub rowLength : List ℕ → ℕ → ℕ → ℕ
@@ -59,11 +58,11 @@ offsetIn area order size from k = offsetOf (2 ^ size) (fieldOf area (from + k * 
 -- row has so many, else in its register
 unfoldable pub placeIn : List ℕ → Order → ℕ → ℕ → ℕ → Place
 placeIn area order info from k =
-    elim (ltb k (countOf info)) [ true ↦ AtOffset (offsetIn area order (sizeOf info) from k) | false ↦ Register ]
+    elim (ltb k (countOf info)) [ true ↦ AtOffset (offsetIn area order (offsetSizeOf info) from k) | false ↦ Register ]
 
 -- RA is at the fixed offset in every row (AMD64), or where the second offset says (AArch64)
 unfoldable pub raIn : List ℕ → Shape → ℕ → ℕ → Place
-raIn area shape info from = elim (shape .rafixed) [ true ↦ AtOffset (shape .fixedra) | false ↦ placeIn area (shape .order) info from 1 ]
+raIn area shape info from = elim (shape .usesfixed) [ true ↦ AtOffset (shape .fixedra) | false ↦ placeIn area (shape .order) info from 1 ]
 
 -- the row at `at`; "signed bit (0 on AMD64)"
 unfoldable pub rowOf : List ℕ → Shape → ℕ → ℕ → Row
@@ -71,22 +70,8 @@ rowOf area shape code at =
     record {
       start = rowStart area (shape .order) code at;
       base = baseOf (infoOf area code at);
-      cfa = offsetIn area (shape .order) (sizeOf (infoOf area code at)) (at + 2 ^ code + 1) 0;
+      cfa = offsetIn area (shape .order) (offsetSizeOf (infoOf area code at)) (at + 2 ^ code + 1) 0;
       ra = raIn area shape (infoOf area code at) (at + 2 ^ code + 1);
-      fp = placeIn area (shape .order) (infoOf area code at) (at + 2 ^ code + 1) (shape .fp);
+      fp = placeIn area (shape .order) (infoOf area code at) (at + 2 ^ code + 1) (shape .fpindex);
       signed = shape .signs && signedBit (infoOf area code at);
     }
-
--- What a reader of the row at `at` needs: its bytes are inside, and its info names a width and at least one offset.
-pub record Readable (area : List ℕ) (code at : ℕ) : Type 0 where
-  pub type : code ≤ 2
-  pub fixed : at + 2 ^ code + 1 ≤ length area
-  pub size : sizeOf (infoOf area code at) ≤ 2
-  pub some : 1 ≤ countOf (infoOf area code at)
-  pub whole : at + rowLength area code at ≤ length area
-
--- what a reader of the offsets that begin at `from` needs
-pub record Announced (area : List ℕ) (info from : ℕ) : Type 0 where
-  pub size : sizeOf info ≤ 2
-  pub some : 1 ≤ countOf info
-  pub whole : from + offsetsLength info ≤ length area

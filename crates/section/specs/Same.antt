@@ -7,8 +7,8 @@ use Prim.Native.Nat.{ℕ, _+_, _^_, _≤_, _<_}
 use Rattle.numbers.specs.declared.field.Order.{Order}
 use Rattle.numbers.specs.declared.offset.Offset.{Offset}
 use Rattle.section.specs.Entry.{typeOf, repeats}
-use Rattle.section.specs.Meaning.{listed, areaOf, shapeOf, entryIn, functionStart, rowAt}
-use Rattle.section.specs.Row.{infoOf, baseOf, countOf, sizeOf, signedBit, rowStart, offsetIn}
+use Rattle.section.specs.Meaning.{listed, areaOf, shapeOf, entryIn, functionStart, rowPlaceAt}
+use Rattle.section.specs.Row.{infoOf, baseOf, countOf, offsetSizeOf, signedBit, rowStart, offsetIn}
 use Rattle.section.specs.declared.shape.Shape.{Shape}
 
 -- "Counts allowed: AMD64 1 or 2 (CFA, FP); AArch64 1 to 3 (CFA, RA, FP)."
@@ -17,7 +17,7 @@ Allowed shape info = (1 ≤ countOf info) × (countOf info ≤ shape .most)
 
 -- "one info byte, then the offsets, signed": all that an info byte announces, in order, from where the first begins
 unfoldable pub offsetsIn : List ℕ → Order → ℕ → ℕ → List Offset
-offsetsIn area order info from = listed (offsetIn area order (sizeOf info) from) (countOf info) 0
+offsetsIn area order info from = listed (offsetIn area order (offsetSizeOf info) from) (countOf info) 0
 
 -- those of the row at `at`
 abbrev pub rowOffsets : List ℕ → Order → ℕ → ℕ → List Offset
@@ -33,7 +33,7 @@ pub record SameRow (shape : Shape) (area : List ℕ) (code at : ℕ) (area′ : 
 
 -- every row of function i has a count allowed
 abbrev pub AllowedRows : List ℕ → ℕ → Type 0
-AllowedRows s i = (k : ℕ) → k < entryIn s i .rows → Allowed (shapeOf s) (infoOf (areaOf s) (typeOf (entryIn s i .info)) (rowAt s i k))
+AllowedRows s i = (k : ℕ) → k < entryIn s i .rows → Allowed (shapeOf s) (infoOf (areaOf s) (typeOf (entryIn s i .info)) (rowPlaceAt s i k))
 
 -- "Two functions are the same when effective start, size, block kind, repeat size (PCMASK only) and the rows in order agree":
 -- function i of one section and function j of another, or of the same; both of one ABI, whose shape is that of the first
@@ -44,4 +44,4 @@ pub record SameFunction (s : List ℕ) (i : ℕ) (t : List ℕ) (j : ℕ) : Type
   pub repeat : repeats (entryIn s i .info) ≡ true → entryIn s i .repeat ≡ entryIn t j .repeat
   pub count : entryIn s i .rows ≡ entryIn t j .rows
   pub rows : (k : ℕ) → k < entryIn s i .rows
-      → SameRow (shapeOf s) (areaOf s) (typeOf (entryIn s i .info)) (rowAt s i k) (areaOf t) (typeOf (entryIn t j .info)) (rowAt t j k)
+      → SameRow (shapeOf s) (areaOf s) (typeOf (entryIn s i .info)) (rowPlaceAt s i k) (areaOf t) (typeOf (entryIn t j .info)) (rowPlaceAt t j k)

@@ -21,12 +21,12 @@ abiOf code = elim (eqb code 1) [ true ↦ Aarch64Big | false ↦ elim (eqb code 
 -- AArch64: "1 to 3 (CFA, RA, FP)", fixed offsets 0, 0
 unfoldable pub aarch64Shape : Order → Shape
 aarch64Shape order =
-    record { order = order; most = 3; fixedfp = record { by = pos 0 }; fixedra = record { by = pos 0 }; rafixed = false; fp = 2; signs = true }
+    record { order = order; most = 3; fixedfp = record { by = pos 0 }; fixedra = record { by = pos 0 }; usesfixed = false; fpindex = 2; signs = true }
 
 -- AMD64: "1 or 2 (CFA, FP)", fixed offsets 0, -8, and RA is at that -8
 unfoldable pub amd64Shape : Shape
 amd64Shape =
-    record { order = Little; most = 2; fixedfp = record { by = pos 0 }; fixedra = record { by = negsuc 7 }; rafixed = true; fp = 1; signs = false }
+    record { order = Little; most = 2; fixedfp = record { by = pos 0 }; fixedra = record { by = negsuc 7 }; usesfixed = true; fpindex = 1; signs = false }
 
 unfoldable pub shape : Abi → Shape
 shape Aarch64Big = aarch64Shape Big

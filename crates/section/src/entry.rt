@@ -7,8 +7,8 @@ use numbers::held::held_start;
 ghost use mathlib.Core.Path.{_≡_};
 ghost use Prim.Native.Nat.{_+_, _≤_};
 ghost use lib.ListN.{length};
-ghost use Rattle.numbers.specs.Held.{raised, Held};
-ghost use Rattle.section.specs.Entry.{entryOf, typeOf, repeats, positionOf, startOf};
+ghost use Rattle.numbers.specs.inner.Held.{raised, Held};
+ghost use Rattle.section.specs.Entry.{entryOf, typeOf, repeats, positionAt, startOf};
 
 pub struct Entry {
     pub place: u32,
@@ -51,12 +51,12 @@ pub fn does_repeat(info: u8) -> bool
     bit_of(4, info)
 }
 
-// What a start counts from: its own field under flag 0x4, else the section.
-fn position_of(relative: bool, entry: Entry) -> u32
-    ensures { λ r. ⌜ r ≡ positionOf relative entry ⌝ }
+// What the start field at a place counts from: that place under flag 0x4, else the section.
+fn position_at(relative: bool, place: u32) -> u32
+    ensures { λ r. ⌜ r ≡ positionAt relative place ⌝ }
 {
     if relative {
-        return entry.place;
+        return place;
     }
     0
 }
@@ -66,5 +66,5 @@ pub fn start_of(relative: bool, entry: Entry) -> u64
     ensures { λ r. ⌜ r ≡ raised (startOf relative entry) ⌝ }
     ensures range { λ r. ⌜ Held (startOf relative entry) r ⌝ }
 {
-    held_start(entry.start, position_of(relative, entry))
+    held_start(entry.start, position_at(relative, entry.place))
 }

@@ -29,8 +29,8 @@ pub struct Sizes {
     pub functions: u32,
     pub rows: u32,
     pub bytes: u32,
-    pub table: u32,
-    pub area: u32,
+    pub tableoffset: u32,
+    pub areaoffset: u32,
 }
 
 // What is needed once the header is sound: `table` and `area` are places in the section.
@@ -106,8 +106,8 @@ pub fn sizes_at(section: &[u8], order: Order) -> Sizes
         functions: u32_at(section, 8, order),
         rows: u32_at(section, 12, order),
         bytes: u32_at(section, 16, order),
-        table: u32_at(section, 20, order),
-        area: u32_at(section, 24, order),
+        tableoffset: u32_at(section, 20, order),
+        areaoffset: u32_at(section, 24, order),
     }
 }
 

@@ -11,7 +11,8 @@ ghost use mathlib.Core.Bool.{_&&_};
 ghost use mathlib.Core.Path.{_≡_};
 ghost use Prim.Native.Nat.{_+_, _*_, _^_, _≤_, _<_};
 ghost use lib.ListN.{length};
-ghost use Rattle.section.specs.Row.{infoOf, baseOf, countOf, sizeOf, signedBit, offsetsLength, rowLength, offsetIn, placeIn, raIn, rowOf, Readable, Announced};
+ghost use Rattle.section.specs.Row.{infoOf, baseOf, countOf, offsetSizeOf, signedBit, offsetsLength, rowLength, offsetIn, placeIn, raIn, rowOf};
+ghost use Rattle.section.specs.inner.Reading.{Readable, Announced};
 
 // What CFA counts from.
 pub enum Base {
@@ -58,8 +59,8 @@ pub fn count_of(info: u8) -> u8
     info / 2 % 16
 }
 
-pub fn size_of(info: u8) -> u8
-    ensures { λ r. ⌜ r ≡ sizeOf info ⌝ }
+pub fn offset_size_of(info: u8) -> u8
+    ensures { λ r. ⌜ r ≡ offsetSizeOf info ⌝ }
 {
     info / 32 % 4
 }
@@ -79,7 +80,7 @@ fn offsets_length(info: u8) -> usize
     ensures { λ r. ⌜ r ≡ offsetsLength info ⌝ }
     ensures range { λ r. ⌜ r ≤ 120 ⌝ }
 {
-    count_of(info) as usize * width_of(size_of(info) as usize)
+    count_of(info) as usize * width_of(offset_size_of(info) as usize)
 }
 
 // How many bytes the row at `at` has.
@@ -104,7 +105,13 @@ fn place_in(area: &[u8], order: Order, info: u8, from: usize, k: u8) -> Place
     ensures { λ r. ⌜ r ≡ placeIn (now (area .entry)) order info from k ⌝ }
 {
     if k < count_of(info) {
-        return Place::AtOffset(offset_in(area, order, size_of(info) as usize, from, k as usize));
+        return Place::AtOffset(offset_in(
+            area,
+            order,
+            offset_size_of(info) as usize,
+            from,
+            k as usize,
+        ));
     }
     Place::Register
 }
@@ -113,7 +120,7 @@ fn ra_in(area: &[u8], shape: Shape, info: u8, from: usize) -> Place
     requires { ⌜ Announced (now area) info from ⌝ }
     ensures { λ r. ⌜ r ≡ raIn (now (area .entry)) shape info from ⌝ }
 {
-    if shape.rafixed {
+    if shape.usesfixed {
         let fixed = shape.fixedra;
         return Place::AtOffset(fixed);
     }
@@ -132,9 +139,9 @@ pub fn row_at(area: &[u8], shape: Shape, code: usize, at: usize) -> Row
     Row {
         start: field_at(area, at, code, order),
         base: base_of(info),
-        cfa: offset_in(area, order, size_of(info) as usize, from, 0),
+        cfa: offset_in(area, order, offset_size_of(info) as usize, from, 0),
         ra: ra_in(area, shape, info, from),
-        fp: place_in(area, order, info, from, shape.fp),
+        fp: place_in(area, order, info, from, shape.fpindex),
         signed: is_signed(shape.signs, info),
     }
 }

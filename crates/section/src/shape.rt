@@ -18,9 +18,9 @@ pub struct Shape {
     pub fixedfp: Offset,
     pub fixedra: Offset,
     // Whether RA lies at the fixed offset in every row; else the second offset of a row places it.
-    pub rafixed: bool,
+    pub usesfixed: bool,
     // Which offset of a row, counted from 0, places FP.
-    pub fp: u8,
+    pub fpindex: u8,
     // Whether a row's bit for a signed return address counts.
     pub signs: bool,
 }
@@ -44,8 +44,8 @@ fn aarch64(order: Order) -> Shape
         most: 3,
         fixedfp: Offset { by: 0 },
         fixedra: Offset { by: 0 },
-        rafixed: false,
-        fp: 2,
+        usesfixed: false,
+        fpindex: 2,
         signs: true,
     }
 }
@@ -58,8 +58,8 @@ fn amd64() -> Shape
         most: 2,
         fixedfp: Offset { by: 0 },
         fixedra: Offset { by: -8 },
-        rafixed: true,
-        fp: 1,
+        usesfixed: true,
+        fpindex: 1,
         signs: false,
     }
 }

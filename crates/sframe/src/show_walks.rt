@@ -83,10 +83,8 @@ pub fn show_trace(traced: Traced, words: &[u64]) {
     match ending {
         Ending::Outermost => show_frames(words, traced.frames, 30),
         Ending::Full => show_frames(words, traced.frames, 31),
-        Ending::Refused(number) => match number {
-            41..=43 => show_refused(number),
-            _ => show_frames(words, traced.frames, number),
-        },
+        Ending::Refused(number) => show_frames(words, traced.frames, number),
+        Ending::Shut(number) => show_refused(number),
         Ending::Unsound { number, index } => show_unsound(number, index),
     }
 }

@@ -15,37 +15,43 @@ use Rattle.section.specs.declared.row.Base.the-variants.{Fp, Sp}
 use Rattle.section.specs.declared.row.Place.{Place}
 use Rattle.section.specs.declared.row.Place.the-variants.{Register, AtOffset}
 use Rattle.section.specs.declared.row.Row.{Row}
-use Rattle.accept.specs.Checks.{verdict, verdictNumber, verdictIndex}
+use Rattle.accept.specs.Given.{verdictNumber, verdictIndexes}
+use Rattle.accept.specs.computed.Checks.{verdict}
 use Rattle.accept.specs.declared.verdict.Verdict.{Verdict}
 use Rattle.accept.specs.declared.verdict.Verdict.the-variants as verdict
-use Rattle.accept.proofs.Exactly.{verdict-number}
-use Rattle.lookup.specs.Answers.{lookupOf, outcomeNumber, outcomeIndexes, outcomeRow}
+use Rattle.accept.proofs.Exactly.{verdict-number, number-of-rule}
+use Rattle.lookup.specs.Numbers.{outcomeNumber, outcomeIndexes, outcomeRow}
+use Rattle.lookup.specs.computed.Answers.{lookupOf}
 use Rattle.lookup.specs.declared.answer.Answer.{Answer}
 use Rattle.lookup.specs.declared.answer.Outcome.{Outcome}
 use Rattle.lookup.specs.declared.answer.Outcome.the-variants as outcome
 use Rattle.lookup.proofs.Exactly as looks
-use Rattle.caller.specs.Caller.{stepIn, stepNumber, stepIndexes, stepRegisters}
 use Rattle.caller.specs.Cases as steps
+use Rattle.caller.specs.Numbers.{numberOfStepCause, stepNumber, stepIndexes, stepRegisters}
+use Rattle.caller.specs.computed.Caller.{stepIn}
 use Rattle.caller.specs.declared.registers.Registers.{Registers}
 use Rattle.caller.specs.declared.registers.Step.{Step}
 use Rattle.caller.specs.declared.registers.Step.the-variants as step
 use Rattle.caller.specs.declared.registers.Where.{Where}
 use Rattle.caller.proofs.Exactly.{step-exactly-when}
-use Rattle.caller.proofs.NumberLaws.{Checked, above-15, checked}
+use Rattle.caller.proofs.NumberLaws.{number-of-refusal}
 use Rattle.trace.specs.Cases as traces
-use Rattle.trace.specs.Trace.{Trace, walkIn, traceOf, traced, tracedAs, endingNumber, endingIndexes}
+use Rattle.trace.specs.Frames.{TraceReply, tracedAs}
+use Rattle.trace.specs.Numbers.{endingNumber, endingIndexes}
+use Rattle.trace.specs.computed.Trace.{walkIn, traceOf, traced}
 use Rattle.trace.specs.declared.answer.Ending.{Ending}
 use Rattle.trace.specs.declared.answer.Ending.the-variants as ending
 use Rattle.trace.specs.declared.answer.Frame.{Frame}
 use Rattle.trace.specs.declared.answer.Traced.{Traced}
 use Rattle.trace.proofs.Exactly.{some-case}
-use Rattle.suntimpani.specs.Flat.{flatVerdict, baseNumber, placeKind, placeOffset, flag, flatRow, flatAnswer, flatStep, flatTraced, walkedAs, flatTrace}
-use Rattle.suntimpani.specs.Read.{readVerdict, readBase, readPlace, readRow, readOutcome, readAnswer, readStep, readEnding, readTraced, readTrace, VerdictNumbered, OutcomeNumbered, StepNumbered, EndingNumbered}
+use Rattle.suntimpani.specs.Flat.{flatVerdict, baseNumber, placeKind, placeOffset, flag, flatRow, flatAnswer, flatStep, flatTraced, handedAs, flatTrace}
+use Rattle.suntimpani.specs.Read.{readVerdict, readBase, readPlace, readRow, readOutcome, readAnswer, readStep, isDoors, readEnding, readTraced, readTrace}
+use Rattle.suntimpani.specs.inner.Numbered.{VerdictNumbered, OutcomeNumbered, StepNumbered, EndingNumbered}
 
 -- ---- verdicts
 
 pub read-verdict : (v : Verdict) → VerdictNumbered v → readVerdict (flatVerdict v) ≡ v
-unfolding readVerdict flatVerdict verdictNumber verdictIndex
+unfolding readVerdict flatVerdict verdictNumber verdictIndexes
 read-verdict verdict.Accepted numbered = refl
 read-verdict (verdict.Refused number index) numbered =
     let other : ¬ (number ≡ 0) = λ is. omega (arith, numbered .0, is) in rw (ne-eqb number 0 other, readVerdict) refl
@@ -110,22 +116,32 @@ read-step (step.Refused old number) numbered =
 
 -- ---- traces
 
+not-doors : (number : ℕ) → number ≤ 40 → isDoors number ≡ false
+unfolding isDoors
+not-doors number most =
+    rw (ne-eqb number 41 λ is. omega (arith, is), ne-eqb number 42 λ is. omega (arith, is), ne-eqb number 43 λ is. omega (arith, is))
+
 read-ending : (e : Ending) → EndingNumbered e → readEnding (endingNumber e) (getD (endingIndexes e) 0 0) ≡ e
-unfolding readEnding endingNumber endingIndexes
+unfolding readEnding isDoors endingNumber endingIndexes
 read-ending ending.Outermost numbered = refl
 read-ending ending.Full numbered = refl
 read-ending (ending.Refused number) numbered =
-    rw (ne-eqb number 30 (numbered .1), readEnding) (rw (ne-eqb number 31 (numbered .2)) (rw (le-ltb number 16 (numbered .0)) refl))
+    rw (ne-eqb number 30 (numbered .1), readEnding)
+    (rw (ne-eqb number 31 (numbered .2)) (rw (numbered .3) (rw (le-ltb number 16 (numbered .0)) refl)))
+read-ending (ending.Shut number) (inl is) = rw is refl
+read-ending (ending.Shut number) (inr (inl is)) = rw is refl
+read-ending (ending.Shut number) (inr (inr is)) = rw is refl
 read-ending (ending.Unsound number index) numbered =
     rw (ne-eqb number 30 λ is. omega (arith, numbered .1, is), readEnding)
-    (rw (ne-eqb number 31 λ is. omega (arith, numbered .1, is)) (rw (lt-ltb number 16 (omega (arith, numbered .1))) refl))
+    (rw (ne-eqb number 31 λ is. omega (arith, numbered .1, is))
+    (rw (not-doors number (omega (arith, numbered .1))) (rw (lt-ltb number 16 (omega (arith, numbered .1))) refl)))
 
 pub read-traced : (answer : Traced) → EndingNumbered (answer .ending) → readTraced (flatTraced answer) ≡ answer
 unfolding readTraced flatTraced
 read-traced answer numbered i = record { ending = read-ending (answer .ending) numbered i; frames = answer .frames }
 
-pub read-trace : (trace : Trace) → EndingNumbered (trace .answer .ending) → readTrace (flatTrace trace) ≡ trace
-unfolding readTrace flatTrace walkedAs tracedAs
+pub read-trace : (trace : TraceReply) → EndingNumbered (trace .answer .ending) → readTrace (flatTrace trace) ≡ trace
+unfolding readTrace flatTrace handedAs tracedAs
 read-trace trace numbered = ap (λ answer. tracedAs answer (trace .words)) (read-traced (trace .answer) numbered)
 
 -- ---- what each call answers is so numbered
@@ -149,22 +165,14 @@ outcome-numbered s address pc = by (lookupOf s address pc .outcome) refl
 
 module _ (s stack : List ℕ) (lies : Where) (registers : Registers) where
   step-numbered : StepNumbered (stepIn s stack lies registers)
+  unfolding numberOfStepCause
   step-numbered = by (stepIn s stack lies registers) (step-exactly-when s stack lies registers _ .0 refl)
     where
       by : (o : Step) → steps.Case s stack lies registers o → StepNumbered o
       by (step.Caller caller) case = tt
-      by (step.Unsound old number index) case = verdict-number s number index (case .2)
-      by (step.Refused old number) case = rw (case .2) (above-15 (case .1))
-
-  -- a number with which a step in a checked section is refused
-  step-refused : (last : Registers) (number : ℕ) → traces.RefusedWith (traces.stepAt s stack lies last) number
-      → (21 ≤ number) × (number ≤ 28)
-  unfolding stepNumber
-  step-refused last number refused = by (traces.stepAt s stack lies last) (checked _ stack lies last s (lies .section)) refused
-    where
-      by : (o : Step) → Checked last o → traces.RefusedWith o number → (21 ≤ number) × (number ≤ 28)
-      by (step.Caller caller) is given = absurd (given .no-caller caller refl)
-      by (step.Refused old other) is given = rw (← given .number-is) (is .1, is .2)
+      by (step.Unsound old number index) (same, (fits, rule, is, given)) = rw is (number-of-rule rule)
+      by (step.Refused old number) (same, inl (is, past)) = omega (arith, is)
+      by (step.Refused old number) (same, inr (refusal, is, on)) = omega (arith, is, number-of-refusal refusal)
 
   trace-numbered : (limit : ℕ) (old : List ℕ) → EndingNumbered (traceOf s stack lies registers limit old .answer .ending)
   unfolding traceOf traced tracedAs
@@ -172,20 +180,19 @@ module _ (s stack : List ℕ) (lies : Where) (registers : Registers) where
       let walk = walkIn s stack lies registers limit (length old) in
       by (walk .frames) (walk .ending) (some-case s stack lies registers limit old)
     where
-      in-walk : (number : ℕ) → (21 ≤ number) × (number ≤ 28) → EndingNumbered (ending.Refused number)
-      in-walk number range = (omega (arith, range .0), λ is. omega (arith, range .1, is), λ is. omega (arith, range .1, is))
-
-      at-door : (number : ℕ) → 41 ≤ number → EndingNumbered (ending.Refused number)
-      at-door number least = (omega (arith, least), λ is. omega (arith, least, is), λ is. omega (arith, least, is))
+      own : (number : ℕ) → 21 ≤ number → number ≤ 28 → EndingNumbered (ending.Refused number)
+      own number least most = (omega arith, (λ is. omega arith), (λ is. omega arith), not-doors number (omega arith))
 
       by : (frames : List Frame) (e : Ending) → traces.Case s stack lies registers limit old frames e → EndingNumbered e
       by frames ending.Outermost case = tt
       by frames ending.Full case = tt
-      by frames (ending.Refused number) (inl (none, inl door)) = at-door number (omega (arith, door .0))
-      by frames (ending.Refused number) (inl (none, inr (inl door))) = at-door number (omega (arith, door .0))
-      by frames (ending.Refused number) (inl (none, inr (inr door))) = at-door number (omega (arith, door .0))
-      by frames (ending.Refused number) (inr walks) = in-walk number (step-refused _ number (walks .walk .ends .2))
-      by frames (ending.Unsound number index) case = verdict-number s number index (case .2)
+      by frames (ending.Refused number) case =
+          let (few, far, (refusal, is, on)) = case .walk .ends in
+          own number (omega (arith, is, number-of-refusal refusal)) (omega (arith, is, number-of-refusal refusal))
+      by frames (ending.Shut number) (none, inl door) = inl (door .0)
+      by frames (ending.Shut number) (none, inr (inl door)) = inr (inl (door .0))
+      by frames (ending.Shut number) (none, inr (inr door)) = inr (inr (door .0))
+      by frames (ending.Unsound number index) (none, opened, rule, is, given) = rw is (number-of-rule rule)
 
 -- ---- so each struct is read back as the answer that it stands for
 

@@ -10,22 +10,23 @@ use Rattle.section.specs.declared.row.Base.the-variants.{Fp, Sp}
 use Rattle.section.specs.declared.row.Place.{Place}
 use Rattle.section.specs.declared.row.Place.the-variants.{Register, AtOffset}
 use Rattle.section.specs.declared.row.Row.{Row}
-use Rattle.accept.specs.Checks.{verdictNumber, verdictIndex}
+use Rattle.accept.specs.Given.{verdictNumber, verdictIndexes}
 use Rattle.accept.specs.declared.verdict.Verdict.{Verdict}
-use Rattle.lookup.specs.Answers.{outcomeNumber, outcomeIndexes, outcomeRow}
+use Rattle.lookup.specs.Numbers.{outcomeNumber, outcomeIndexes, outcomeRow}
 use Rattle.lookup.specs.declared.answer.Answer.{Answer}
-use Rattle.caller.specs.Caller.{stepNumber, stepIndexes, stepRegisters}
+use Rattle.caller.specs.Numbers.{stepNumber, stepIndexes, stepRegisters}
 use Rattle.caller.specs.declared.registers.Step.{Step}
-use Rattle.trace.specs.Trace.{Trace, endingNumber, endingIndexes}
+use Rattle.trace.specs.Frames.{TraceReply}
+use Rattle.trace.specs.Numbers.{endingNumber, endingIndexes}
 use Rattle.trace.specs.declared.answer.Traced.{Traced}
-use Rattle.suntimpani.specs.declared.flat.Checked.{Checked}
-use Rattle.suntimpani.specs.declared.flat.Looked.{Looked}
-use Rattle.suntimpani.specs.declared.walks.Stepped.{Stepped}
-use Rattle.suntimpani.specs.declared.walks.Walked.{Walked}
+use Rattle.suntimpani.specs.declared.flat.AnswerInC.{AnswerInC}
+use Rattle.suntimpani.specs.declared.flat.VerdictInC.{VerdictInC}
+use Rattle.suntimpani.specs.declared.walks.StepInC.{StepInC}
+use Rattle.suntimpani.specs.declared.walks.TracedInC.{TracedInC}
 
 -- number 0 is accepted
-unfoldable pub flatVerdict : Verdict → Checked
-flatVerdict verdict = record { number = verdictNumber verdict; index = verdictIndex verdict }
+unfoldable pub flatVerdict : Verdict → VerdictInC
+flatVerdict verdict = record { number = verdictNumber verdict; index = getD (verdictIndexes verdict) 0 0 }
 
 -- ---- a row
 
@@ -46,10 +47,10 @@ unfoldable pub flag : Bool → ℕ
 flag set = elim set [ true ↦ 1 | false ↦ 0 ]
 
 -- what stands in the fields of a row where none was found
-unfoldable pub noRow : Row
-noRow = record { start = 0; base = Fp; cfa = record { by = pos 0 }; ra = Register; fp = Register; signed = false }
+unfoldable pub emptyRow : Row
+emptyRow = record { start = 0; base = Fp; cfa = record { by = pos 0 }; ra = Register; fp = Register; signed = false }
 
-unfoldable pub flatRow : ℕ → ℕ → ℕ → ℕ → ℕ → Row → Looked
+unfoldable pub flatRow : ℕ → ℕ → ℕ → ℕ → ℕ → Row → AnswerInC
 flatRow number function second compared row decoded =
     record {
       number = number;
@@ -69,21 +70,21 @@ flatRow number function second compared row decoded =
 
 -- ---- a lookup's answer: its number, its indexes, its count, and its row with its number
 
-unfoldable pub flatAnswer : Answer → Looked
+unfoldable pub flatAnswer : Answer → AnswerInC
 flatAnswer answer =
     let indexes = outcomeIndexes (answer .outcome) in
-    let found = getD (outcomeRow (answer .outcome)) 0 (0, noRow) in
+    let found = getD (outcomeRow (answer .outcome)) 0 (0, emptyRow) in
     flatRow (outcomeNumber (answer .outcome)) (getD indexes 0 0) (getD indexes 1 0) (answer .compared) (found .0) (found .1)
 
 -- ---- a step's answer: the registers that it hands back, its number and its index
 
-unfoldable pub flatStep : Step → Stepped
+unfoldable pub flatStep : Step → StepInC
 flatStep step =
     record { registers = stepRegisters step; number = stepNumber step; index = getD (stepIndexes step) 0 0 }
 
 -- ---- a trace's answer: its frames, its ending's number and index; and with it the words of the buffer at exit
 
-unfoldable pub flatTraced : Traced → Walked
+unfoldable pub flatTraced : Traced → TracedInC
 flatTraced traced =
     record {
       frames = traced .frames;
@@ -92,11 +93,11 @@ flatTraced traced =
     }
 
 pub record Handed : Type 0 where
-  pub answer : Walked
+  pub answer : TracedInC
   pub words : List ℕ
 
-unfoldable pub walkedAs : Walked → List ℕ → Handed
-walkedAs answer words = record { answer = answer; words = words }
+unfoldable pub handedAs : TracedInC → List ℕ → Handed
+handedAs answer words = record { answer = answer; words = words }
 
-unfoldable pub flatTrace : Trace → Handed
-flatTrace trace = walkedAs (flatTraced (trace .answer)) (trace .words)
+unfoldable pub flatTrace : TraceReply → Handed
+flatTrace trace = handedAs (flatTraced (trace .answer)) (trace .words)

@@ -1,8 +1,6 @@
--- How each flat struct is read back: the answer that it stands for, as the header for C says it. And which numbers the cases of an
--- answer carry, so that a flat number tells the cases apart.
-use Prim.Native.Nat.{ℕ, _≤_}
-use mathlib.Core.Path.{_≡_}
-use mathlib.Core.Bool.{true, false, not}
+-- How each flat struct is read back: the answer that it stands for, as the header for C says it.
+use Prim.Native.Nat.{ℕ}
+use mathlib.Core.Bool.{Bool, true, false, not, _||_}
 use lib.Dec.{eqb, ltb}
 use lib.IntN.{ℤ}
 use Rattle.section.specs.declared.row.Base.{Base}
@@ -17,19 +15,19 @@ use Rattle.lookup.specs.declared.answer.Outcome.{Outcome}
 use Rattle.lookup.specs.declared.answer.Outcome.the-variants as outcome
 use Rattle.caller.specs.declared.registers.Step.{Step}
 use Rattle.caller.specs.declared.registers.Step.the-variants as step
-use Rattle.trace.specs.Trace.{Trace, tracedAs}
+use Rattle.trace.specs.Frames.{TraceReply, tracedAs}
 use Rattle.trace.specs.declared.answer.Ending.{Ending}
 use Rattle.trace.specs.declared.answer.Ending.the-variants as ending
 use Rattle.trace.specs.declared.answer.Traced.{Traced}
 use Rattle.suntimpani.specs.Flat.{Handed}
-use Rattle.suntimpani.specs.declared.flat.Checked.{Checked}
-use Rattle.suntimpani.specs.declared.flat.Looked.{Looked}
-use Rattle.suntimpani.specs.declared.walks.Stepped.{Stepped}
-use Rattle.suntimpani.specs.declared.walks.Walked.{Walked}
+use Rattle.suntimpani.specs.declared.flat.AnswerInC.{AnswerInC}
+use Rattle.suntimpani.specs.declared.flat.VerdictInC.{VerdictInC}
+use Rattle.suntimpani.specs.declared.walks.StepInC.{StepInC}
+use Rattle.suntimpani.specs.declared.walks.TracedInC.{TracedInC}
 
 -- ---- a verdict: number 0 is accepted
 
-unfoldable pub readVerdict : Checked → Verdict
+unfoldable pub readVerdict : VerdictInC → Verdict
 readVerdict checked =
     elim (eqb (checked .number) 0) [
       | true ↦ verdict.Accepted
@@ -44,7 +42,7 @@ readBase base = elim (eqb base 0) [ true ↦ Fp | false ↦ Sp ]
 unfoldable pub readPlace : ℕ → ℤ → Place
 readPlace kind offset = elim (eqb kind 0) [ true ↦ Register | false ↦ AtOffset (record { by = offset }) ]
 
-unfoldable pub readRow : Looked → Row
+unfoldable pub readRow : AnswerInC → Row
 readRow looked =
     record {
       start = looked .start;
@@ -57,7 +55,7 @@ readRow looked =
 
 -- ---- a lookup's answer: number 0 is found, 21 to 23 have their own cases, and every other number is the section's
 
-unfoldable pub readOutcome : Looked → Outcome
+unfoldable pub readOutcome : AnswerInC → Outcome
 readOutcome looked =
     elim (eqb (looked .number) 0) [
       | true ↦ outcome.Found (readRow looked) (looked .function) (looked .row)
@@ -73,12 +71,12 @@ readOutcome looked =
       ]
     ]
 
-unfoldable pub readAnswer : Looked → Answer
+unfoldable pub readAnswer : AnswerInC → Answer
 readAnswer looked = record { outcome = readOutcome looked; compared = looked .compared }
 
 -- ---- a step's answer: number 0 is a caller, 1 to 15 are the section's
 
-unfoldable pub readStep : Stepped → Step
+unfoldable pub readStep : StepInC → Step
 readStep stepped =
     elim (eqb (stepped .number) 0) [
       | true ↦ step.Caller (stepped .registers)
@@ -88,7 +86,11 @@ readStep stepped =
       ]
     ]
 
--- ---- a trace's answer: 30 is the outermost frame, 31 a full limit, 1 to 15 are the section's
+-- ---- a trace's answer: 30 is the outermost frame, 31 a full limit, 41, 42 and 43 are the door's, 1 to 15 the section's, and every other
+-- number is that of a refused step
+
+unfoldable pub isDoors : ℕ → Bool
+isDoors number = eqb number 41 || eqb number 42 || eqb number 43
 
 unfoldable pub readEnding : ℕ → ℕ → Ending
 readEnding number index =
@@ -96,46 +98,19 @@ readEnding number index =
       | true ↦ ending.Outermost
       | false ↦ elim (eqb number 31) [
         | true ↦ ending.Full
-        | false ↦ elim (ltb number 16) [
-          | true ↦ ending.Unsound number index
-          | false ↦ ending.Refused number
+        | false ↦ elim (isDoors number) [
+          | true ↦ ending.Shut number
+          | false ↦ elim (ltb number 16) [
+            | true ↦ ending.Unsound number index
+            | false ↦ ending.Refused number
+          ]
         ]
       ]
     ]
 
-unfoldable pub readTraced : Walked → Traced
+unfoldable pub readTraced : TracedInC → Traced
 readTraced walked = record { ending = readEnding (walked .ending) (walked .index); frames = walked .frames }
 
 -- with the words of the buffer, which are the same on both sides
-unfoldable pub readTrace : Handed → Trace
+unfoldable pub readTrace : Handed → TraceReply
 readTrace handed = tracedAs (readTraced (handed .answer)) (handed .words)
-
--- ---- the numbers that each case carries
-
--- "1 to 15"
-abbrev pub OfSection : ℕ → Type 0
-OfSection number = (1 ≤ number) × (number ≤ 15)
-
-abbrev pub VerdictNumbered : Verdict → Type 0
-VerdictNumbered verdict.Accepted = Unit {0}
-VerdictNumbered (verdict.Refused number index) = OfSection number
-
-abbrev pub OutcomeNumbered : Outcome → Type 0
-OutcomeNumbered (outcome.Found row function number) = Unit {0}
-OutcomeNumbered (outcome.Unsound number index) = OfSection number
-OutcomeNumbered outcome.NoFunction = Unit {0}
-OutcomeNumbered (outcome.Dispute first second) = Unit {0}
-OutcomeNumbered (outcome.NoRow function) = Unit {0}
-
--- a refusal of its own has a number above those of the section
-abbrev pub StepNumbered : Step → Type 0
-StepNumbered (step.Caller caller) = Unit {0}
-StepNumbered (step.Unsound old number index) = OfSection number
-StepNumbered (step.Refused old number) = 16 ≤ number
-
--- "A refused step ends it with its own number, 21 to 28."; 41 to 43 are refused before the walk
-abbrev pub EndingNumbered : Ending → Type 0
-EndingNumbered ending.Outermost = Unit {0}
-EndingNumbered ending.Full = Unit {0}
-EndingNumbered (ending.Refused number) = (16 ≤ number) × (¬ (number ≡ 30)) × (¬ (number ≡ 31))
-EndingNumbered (ending.Unsound number index) = OfSection number

@@ -7,18 +7,18 @@ use section::row::Base;
 use section::row::Place;
 use section::row::Row;
 ghost use mathlib.Core.Path.{_≡_};
-ghost use Rattle.suntimpani.specs.Flat.{flatVerdict, baseNumber, placeKind, placeOffset, flag, noRow, flatRow, flatAnswer};
+ghost use Rattle.suntimpani.specs.Flat.{flatVerdict, baseNumber, placeKind, placeOffset, flag, emptyRow, flatRow, flatAnswer};
 
 // A verdict: number 0 is accepted, else the number and the entry's index.
 #[repr(C)]
-pub struct Checked {
+pub struct VerdictInC {
     pub number: u64,
     pub index: u64,
 }
 
 // What a lookup answers: number 0 is found. A place is 0 in a register, 1 at the offset beside it; a base is 0 for FP, 1 for SP.
 #[repr(C)]
-pub struct Looked {
+pub struct AnswerInC {
     pub number: u64,
     pub function: u64,
     pub second: u64,
@@ -34,15 +34,15 @@ pub struct Looked {
     pub signedra: u64,
 }
 
-pub fn flat_verdict(answer: Verdict) -> Checked
+pub fn flat_verdict(answer: Verdict) -> VerdictInC
     ensures { λ r. ⌜ r ≡ flatVerdict answer ⌝ }
 {
     match answer {
-        Verdict::Accepted => Checked {
+        Verdict::Accepted => VerdictInC {
             number: 0,
             index: 0,
         },
-        Verdict::Refused { number, index } => Checked {
+        Verdict::Refused { number, index } => VerdictInC {
             number: number,
             index: index,
         },
@@ -86,8 +86,8 @@ fn flag_of(set: bool) -> u64
 }
 
 // What stands in the fields of a row where none was found: it flattens to 0 in each.
-fn no_row() -> Row
-    ensures { λ r. ⌜ r ≡ noRow ⌝ }
+fn empty_row() -> Row
+    ensures { λ r. ⌜ r ≡ emptyRow ⌝ }
 {
     Row {
         start: 0,
@@ -106,7 +106,7 @@ fn flat_row(
     compared: u64,
     row: u64,
     decoded: Row,
-) -> Looked
+) -> AnswerInC
     ensures { λ r. ⌜ r ≡ flatRow number function second compared row decoded ⌝ }
 {
     let base = decoded.base;
@@ -115,7 +115,7 @@ fn flat_row(
     let savedfp = decoded.fp;
     let ra = place_offset(savedra);
     let fp = place_offset(savedfp);
-    Looked {
+    AnswerInC {
         number: number,
         function: function,
         second: second,
@@ -132,7 +132,7 @@ fn flat_row(
     }
 }
 
-pub fn flat_answer(answer: Answer) -> Looked
+pub fn flat_answer(answer: Answer) -> AnswerInC
     ensures { λ r. ⌜ r ≡ flatAnswer answer ⌝ }
 {
     let compared = answer.compared;
@@ -143,9 +143,9 @@ pub fn flat_answer(answer: Answer) -> Looked
             function,
             number,
         } => flat_row(0, function, 0, compared, number, row),
-        Outcome::Unsound { number, index } => flat_row(number, index, 0, compared, 0, no_row()),
-        Outcome::NoFunction => flat_row(21, 0, 0, compared, 0, no_row()),
-        Outcome::Dispute { first, second } => flat_row(22, first, second, compared, 0, no_row()),
-        Outcome::NoRow { function } => flat_row(23, function, 0, compared, 0, no_row()),
+        Outcome::Unsound { number, index } => flat_row(number, index, 0, compared, 0, empty_row()),
+        Outcome::NoFunction => flat_row(21, 0, 0, compared, 0, empty_row()),
+        Outcome::Dispute { first, second } => flat_row(22, first, second, compared, 0, empty_row()),
+        Outcome::NoRow { function } => flat_row(23, function, 0, compared, 0, empty_row()),
     }
 }

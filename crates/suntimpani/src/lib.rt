@@ -2,12 +2,12 @@
 pub mod flat;
 pub mod walks;
 
-use crate::flat::Checked;
-use crate::flat::Looked;
+use crate::flat::AnswerInC;
+use crate::flat::VerdictInC;
 use crate::flat::flat_answer;
 use crate::flat::flat_verdict;
-use crate::walks::Stepped;
-use crate::walks::Walked;
+use crate::walks::StepInC;
+use crate::walks::TracedInC;
 use crate::walks::flat_step;
 use crate::walks::flat_traced;
 use accept::section_check::check;
@@ -16,21 +16,21 @@ use caller::registers::Where;
 use lookup::look::lookup;
 use trace::walk::trace;
 ghost use mathlib.Core.Path.{_≡_};
-ghost use Rattle.accept.specs.Checks.{verdict};
-ghost use Rattle.lookup.specs.Answers.{lookupOf};
-ghost use Rattle.caller.specs.Caller.{stepIn};
-ghost use Rattle.trace.specs.Trace.{traceOf};
-ghost use Rattle.suntimpani.specs.Flat.{flatVerdict, flatAnswer, flatStep, walkedAs, flatTrace};
+ghost use Rattle.accept.specs.computed.Checks.{verdict};
+ghost use Rattle.lookup.specs.computed.Answers.{lookupOf};
+ghost use Rattle.caller.specs.computed.Caller.{stepIn};
+ghost use Rattle.trace.specs.computed.Trace.{traceOf};
+ghost use Rattle.suntimpani.specs.Flat.{flatVerdict, flatAnswer, flatStep, handedAs, flatTrace};
 
 #[no_mangle]
-pub extern "C" fn suntimpani_check(section: &[u8]) -> Checked
+pub extern "C" fn suntimpani_check(section: &[u8]) -> VerdictInC
     ensures { λ r. ⌜ r ≡ flatVerdict (verdict (now (section .entry))) ⌝ }
 {
     flat_verdict(check(section))
 }
 
 #[no_mangle]
-pub extern "C" fn suntimpani_lookup(section: &[u8], address: u64, pc: u64) -> Looked
+pub extern "C" fn suntimpani_lookup(section: &[u8], address: u64, pc: u64) -> AnswerInC
     ensures { λ r. ⌜ r ≡ flatAnswer (lookupOf (now (section .entry)) address pc) ⌝ }
 {
     flat_answer(lookup(section, address, pc))
@@ -42,7 +42,7 @@ pub extern "C" fn suntimpani_caller(
     stack: &[u8],
     lies: Where,
     registers: Registers,
-) -> Stepped
+) -> StepInC
     ensures { λ r. ⌜ r ≡ flatStep (stepIn (now (section .entry)) (now (stack .entry)) lies registers) ⌝ }
 {
     flat_step(registers.step(section, stack, lies))
@@ -56,8 +56,8 @@ pub extern "C" fn suntimpani_trace(
     registers: Registers,
     limit: u64,
     buffer: &mut [u64],
-) -> Walked
-    ensures { λ r. ⌜ walkedAs r (now (buffer .exit)) ≡ flatTrace (traceOf (now (section .entry)) (now (stack .entry)) lies registers limit (now (buffer .entry))) ⌝ }
+) -> TracedInC
+    ensures { λ r. ⌜ handedAs r (now (buffer .exit)) ≡ flatTrace (traceOf (now (section .entry)) (now (stack .entry)) lies registers limit (now (buffer .entry))) ⌝ }
 {
     flat_traced(trace(section, stack, lies, registers, limit, buffer))
 }

@@ -8,8 +8,8 @@ use native.Mathlib.Omega.{arith}
 use lib.ListN.{List·getD-append, length, getD, take, drop, set, length-append, length-take, length-drop, take-append-drop}
 use lib.Seq.{take-at, drop-at, drop-append-seam, getD-drop, drop-drop, sets-eq}
 use Rattle.trace.specs.Cases.{noFrame}
-use Rattle.trace.specs.Inner.{put}
-use Rattle.trace.specs.Trace.{wordsOf, allWords, over}
+use Rattle.trace.specs.Frames.{wordsOf, allWords, over}
+use Rattle.trace.specs.inner.Writing.{put}
 use Rattle.trace.specs.declared.answer.Frame.{Frame}
 
 -- ---- over, and put

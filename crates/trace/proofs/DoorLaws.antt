@@ -9,8 +9,8 @@ use Prim.Native.Nat.{ℕ, _+_, _*_, _^_, _≤_, _<_}
 use native.Mathlib.Omega.{arith}
 use lib.Dec.{eqb}
 use lib.ListN.{length}
-use Rattle.numbers.specs.Address.{windowFits}
-use Rattle.accept.specs.Checks.{firstBad, verdict}
+use Rattle.numbers.specs.computed.Address.{windowFits}
+use Rattle.accept.specs.computed.Checks.{firstBad, verdict}
 use Rattle.accept.specs.declared.verdict.Fault.{Fault}
 use Rattle.accept.specs.declared.verdict.Fault.the-variants.{Sound, Breaks}
 use Rattle.accept.specs.declared.verdict.Verdict.{Verdict}
@@ -21,9 +21,10 @@ use Rattle.lookup.proofs.CoveringLaws.{by-value}
 use Rattle.caller.specs.Cases.{Rule41}
 use Rattle.caller.specs.declared.registers.Registers.{Registers}
 use Rattle.caller.specs.declared.registers.Where.{Where}
-use Rattle.trace.specs.Cases.{LimitAbove, TooFewWords, AtDoor, Opened}
-use Rattle.trace.specs.Trace.{inForce, ended, withMark, checkedWalk, doorTests, doorFault, afterDoor, afterCheck, walkIn, allWords, over, tracedAs, traced, traceOf}
-use Rattle.trace.specs.declared.answer.Ending.the-variants.{Refused, Unsound}
+use Rattle.trace.specs.Cases.{LimitAbove, TooFewWords, AtDoor, DoorOpen}
+use Rattle.trace.specs.Frames.{inForce, withMark, allWords, over, tracedAs}
+use Rattle.trace.specs.computed.Trace.{ended, checkedWalk, doorTests, doorFault, afterDoor, walkAfter, walkIn, traced, traceOf}
+use Rattle.trace.specs.declared.answer.Ending.the-variants.{Shut, Unsound}
 
 -- ---- the limit in force
 
@@ -66,7 +67,7 @@ module _ (stack : List ℕ) (lies : Where) (limit : ℕ) (buffer : List ℕ) whe
   unfolding doorTests windowFits
   door-table = line (unless (at-most _ _)) (line (not-below _ _) (line (not-below _ _) end))
 
-  door-opens : (doorFault stack lies limit (length buffer) ≡ Sound) ↔ Opened stack lies limit buffer
+  door-opens : (doorFault stack lies limit (length buffer) ≡ Sound) ↔ DoorOpen stack lies limit buffer
   unfolding doorFault
   door-opens =
       Iff·trans (table-sound door-table) (
@@ -112,7 +113,7 @@ module _ (stack : List ℕ) (lies : Where) (limit : ℕ) (buffer : List ℕ) whe
   pub door-number : (number : ℕ) → AtDoor stack lies limit buffer number → (41 ≤ number) × (number ≤ 43)
   door-number number = ⊎-elim (λ h. omega arith) (⊎-elim (λ h. omega arith) (λ h. omega arith))
 
-  pub not-open : (number : ℕ) → AtDoor stack lies limit buffer number → ¬ Opened stack lies limit buffer
+  pub not-open : (number : ℕ) → AtDoor stack lies limit buffer number → ¬ DoorOpen stack lies limit buffer
   not-open number at opened =
       ⊎-elim (λ h. opened .in-memory (h .1)) (⊎-elim (λ h. opened .allowed (h .2)) (λ h. opened .room (h .3))) at
 
@@ -123,12 +124,12 @@ module _ (stack : List ℕ) (lies : Where) (limit : ℕ) (buffer : List ℕ) whe
   -- the three ways
   pub data Way (s : List ℕ) : Type 0 where
     shut : (number : ℕ) → AtDoor stack lies limit buffer number → Way s
-    unsound : Opened stack lies limit buffer → (number index : ℕ) → verdict s ≡ verdict.Refused number index → Way s
-    sound : Opened stack lies limit buffer → verdict s ≡ verdict.Accepted → Way s
+    unsound-way : DoorOpen stack lies limit buffer → (number index : ℕ) → verdict s ≡ verdict.Refused number index → Way s
+    sound : DoorOpen stack lies limit buffer → verdict s ≡ verdict.Accepted → Way s
 
-  way-in : (s : List ℕ) → Opened stack lies limit buffer → (v : Verdict) → verdict s ≡ v → Way s
+  way-in : (s : List ℕ) → DoorOpen stack lies limit buffer → (v : Verdict) → verdict s ≡ v → Way s
   way-in s opened verdict.Accepted e = sound opened e
-  way-in s opened (verdict.Refused number index) e = unsound opened number index e
+  way-in s opened (verdict.Refused number index) e = unsound-way opened number index e
 
   way-by : (s : List ℕ) (fault : Fault) → doorFault stack lies limit (length buffer) ≡ fault → Way s
   way-by s Sound e = way-in s (door-opens .0 e) (verdict s) refl
@@ -141,34 +142,34 @@ module _ (stack : List ℕ) (lies : Where) (limit : ℕ) (buffer : List ℕ) whe
 
 module _ (s stack : List ℕ) (lies : Where) (registers : Registers) (limit : ℕ) (buffer : List ℕ) where
   refused-walk : {number : ℕ} → doorFault stack lies limit (length buffer) ≡ Breaks number
-      → walkIn s stack lies registers limit (length buffer) ≡ ended (Refused number)
+      → walkIn s stack lies registers limit (length buffer) ≡ ended (Shut number)
   unfolding walkIn afterDoor
   refused-walk broken = rw broken
 
   pub shut-walk : (number : ℕ) → AtDoor stack lies limit buffer number
-      → walkIn s stack lies registers limit (length buffer) ≡ ended (Refused number)
+      → walkIn s stack lies registers limit (length buffer) ≡ ended (Shut number)
   shut-walk number at = refused-walk (door-shuts stack lies limit buffer number .1 at)
 
   -- the same as the code answers it, with the buffer as it was
   pub refused-at-door : {number : ℕ} → doorFault stack lies limit (length buffer) ≡ Breaks number
-      → tracedAs (record { ending = Refused number; frames = 0 }) buffer ≡ traceOf s stack lies registers limit buffer
+      → tracedAs (record { ending = Shut number; frames = 0 }) buffer ≡ traceOf s stack lies registers limit buffer
   unfolding traceOf traced ended allWords over
   refused-at-door broken = ap (λ w. traced w buffer) (sym (refused-walk broken))
 
   module _ (open-door : doorFault stack lies limit (length buffer) ≡ Sound) where
     past-door : walkIn s stack lies registers limit (length buffer)
-        ≡ afterCheck (verdict s) (checkedWalk s stack lies (inForce limit) (withMark registers))
+        ≡ walkAfter (verdict s) (checkedWalk s stack lies (inForce limit) (withMark registers))
     unfolding walkIn afterDoor
     past-door = rw open-door
 
     refused-section : {number index : ℕ} → verdict s ≡ verdict.Refused number index
         → walkIn s stack lies registers limit (length buffer) ≡ ended (Unsound number index)
-    unfolding afterCheck
+    unfolding walkAfter
     refused-section bad = past-door ∙ rw bad
 
     accepted-section : verdict s ≡ verdict.Accepted
         → walkIn s stack lies registers limit (length buffer) ≡ checkedWalk s stack lies (inForce limit) (withMark registers)
-    unfolding afterCheck
+    unfolding walkAfter
     accepted-section good = past-door ∙ rw good
 
     pub refused-by-section : {number index : ℕ} → verdict s ≡ verdict.Refused number index
@@ -181,7 +182,7 @@ module _ (s stack : List ℕ) (lies : Where) (registers : Registers) (limit : �
     unfolding traceOf
     walked good = ap (λ w. traced w buffer) (sym (accepted-section good))
 
-  module _ (opened : Opened stack lies limit buffer) where
+  module _ (opened : DoorOpen stack lies limit buffer) where
     pub unsound-walk : (number index : ℕ) → verdict s ≡ verdict.Refused number index
         → walkIn s stack lies registers limit (length buffer) ≡ ended (Unsound number index)
     unsound-walk number index bad = refused-section (door-opens stack lies limit buffer .1 opened) bad

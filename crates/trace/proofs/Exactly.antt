@@ -3,29 +3,40 @@
 -- in specs/Cases, in document 01's words.
 -- Assumes nothing.
 use mathlib.Core.Path.{_≡_, refl, sym, _∙_, ap, subst, fun-ext}
-use mathlib.Core.List.{List, []}
-use mathlib.Core.Logic.{_↔_, Iff·trans, ⊎-elim}
+use mathlib.Core.List.{List, [], _∷_}
+use mathlib.Core.Logic.{_↔_, ⊎-elim}
 use Prim.Native.Nat.{ℕ, suc, _+_, _*_, _≤_, _<_}
 use native.Mathlib.Omega.{arith}
 use lib.ListN.{length, getD, drop}
 use borrow.Author.Tests.{ne-eqb}
 use Rattle.section.specs.Meaning.{shapeOf}
-use Rattle.accept.specs.Checks.{verdict}
+use Rattle.accept.specs.Given as accept
+use Rattle.accept.specs.Given.{Rule, numberOfRule, BrokenFirst}
+use Rattle.accept.specs.Rules.{Obeys}
+use Rattle.accept.specs.computed.Checks.{verdict}
 use Rattle.accept.specs.declared.verdict.Verdict.the-variants as verdict
+use Rattle.accept.proofs.Exactly.{accepted-exactly-when, given-exactly-when, by-number}
 use Rattle.accept.proofs.FaultLaws.{accepted-or-refused}
-use Rattle.lookup.specs.Finding.{lookIn}
-use Rattle.caller.specs.Cases.{Rule41}
+use Rattle.lookup.specs.computed.Answers.{lookIn}
+use Rattle.caller.specs.Cases.{Rule41, OnRefusal, CallerCase}
+use Rattle.caller.specs.Frame.{cfaOfSp}
+use Rattle.caller.specs.Numbers.{Refusal, numberOfRefusal, numberOfStepCause}
 use Rattle.caller.specs.declared.registers.Registers.{Registers}
 use Rattle.caller.specs.declared.registers.Step.{Step}
 use Rattle.caller.specs.declared.registers.Where.{Where}
-use Rattle.trace.specs.Cases.{LimitAbove, TooFewWords, Opened, noFrame, Follows, stepAt, Walks, Case}
-use Rattle.trace.specs.Trace.{Walk, Trace, inForce, frameOf, walkOf, withMark, checkedWalk, afterCheck, walkIn, allWords, over, tracedAs, traced, traceOf, endingNumber}
+use Rattle.caller.proofs.Exactly.{cfa-of-caller}
+use Rattle.trace.specs.Cases.{LimitAbove, TooFewWords, AtDoor, DoorOpen, noFrame, Follows, EndsOutermost, EndsFull, EndsRefused, WalkMade, OnTrace, Case}
+use Rattle.trace.specs.Frames.{TraceReply, inForce, frameOf, withMark, allWords, over, tracedAs}
+use Rattle.trace.specs.Numbers.{TraceCause, window, limitAbove, tooFewWords, unsound, refused, outermost, full, numberOfTraceCause, endingNumber, endingIndexes}
+use Rattle.trace.specs.computed.Trace.{Walk, walkOf, checkedWalk, walkAfter, walkIn, traced, traceOf}
 use Rattle.trace.specs.declared.answer.Ending.{Ending}
-use Rattle.trace.specs.declared.answer.Ending.the-variants.{Outermost, Full, Refused, Unsound}
+use Rattle.trace.specs.declared.answer.Ending.the-variants.{Outermost, Full, Refused, Shut, Unsound}
 use Rattle.trace.specs.declared.answer.Frame.{Frame}
 use Rattle.trace.proofs.BufferLaws.{over-length, over-first, over-after, over-kept, all-length, all-at}
-use Rattle.trace.proofs.DoorLaws.{in-force-small, door-41, door-42, door-43, not-open}
-use Rattle.trace.proofs.TraceLaws.{trace-case, case-whole, whole-follows, whole-room, whole-none, door-given, section-given, step-given, outermost-given, full-given}
+use Rattle.trace.proofs.DoorLaws.{in-force-small, not-open}
+use Rattle.trace.proofs.NumberLaws.{trace-distinct}
+use Rattle.trace.proofs.TraceLaws as laws
+use Rattle.trace.proofs.TraceLaws.{trace-case, case-whole, whole-follows, whole-room, whole-none, trace-given}
 
 -- ---- "Limit 0 means 64; otherwise 1 to 256."
 
@@ -38,7 +49,7 @@ unfolding inForce
 in-force-else limit other = rw (ne-eqb limit 0 other, inForce)
 
 module _ (s stack : List ℕ) (lies : Where) (registers : Registers) (limit : ℕ) (old : List ℕ) where
-  abbrev trace : Trace
+  abbrev trace : TraceReply
   trace = traceOf s stack lies registers limit old
 
   -- its frames and its ending
@@ -71,62 +82,105 @@ module _ (s stack : List ℕ) (lies : Where) (registers : Registers) (limit : �
   unfolding traceOf traced
   case-answers frames ending h = ap (λ w. traced w old) (trace-exactly-when frames ending .1 h)
 
+  -- every number at once, and one is every trace's
+  pub number-exactly-when : (cause : TraceCause)
+      → (endingNumber (trace .answer .ending) ≡ numberOfTraceCause cause) ↔ OnTrace s stack lies registers limit old cause
+  unfolding traceOf traced tracedAs
+  number-exactly-when = trace-given s stack lies registers limit old
+
+  pub some-cause : (cause : TraceCause) × OnTrace s stack lies registers limit old cause
+  some-cause = laws.some-cause s stack lies registers limit old
+
+  -- no two causes hold at once
+  pub cause-once : (cause other : TraceCause) → OnTrace s stack lies registers limit old cause → OnTrace s stack lies registers limit old other
+      → cause ≡ other
+  cause-once cause other on also =
+      trace-distinct .same cause other (sym (number-exactly-when cause .1 on) ∙ number-exactly-when other .1 also)
+
   -- "41 stack address plus length above 2^64"
   pub number-41-exactly-when : (endingNumber (trace .answer .ending) ≡ 41) ↔ Rule41 stack lies
-  unfolding traceOf traced tracedAs
-  number-41-exactly-when = Iff·trans (door-given s stack lies registers limit old 41 (omega arith)) (door-41 stack lies limit old)
+  unfolding numberOfTraceCause numberOfStepCause
+  number-41-exactly-when = number-exactly-when window
 
   -- "42 limit above 256"
   pub number-42-exactly-when : (endingNumber (trace .answer .ending) ≡ 42) ↔ ((¬ Rule41 stack lies) × LimitAbove limit)
-  unfolding traceOf traced tracedAs
-  number-42-exactly-when = Iff·trans (door-given s stack lies registers limit old 42 (omega arith)) (door-42 stack lies limit old)
+  unfolding numberOfTraceCause
+  number-42-exactly-when = number-exactly-when limitAbove
 
   -- "43 fewer than 3 words per limit frame"
   pub number-43-exactly-when : (endingNumber (trace .answer .ending) ≡ 43)
       ↔ ((¬ Rule41 stack lies) × (¬ LimitAbove limit) × TooFewWords limit old)
-  unfolding traceOf traced tracedAs
-  number-43-exactly-when = Iff·trans (door-given s stack lies registers limit old 43 (omega arith)) (door-43 stack lies limit old)
+  unfolding numberOfTraceCause
+  number-43-exactly-when = number-exactly-when tooFewWords
 
-  -- "then 1 to 15. These .. answer 0 frames with their number, and for 1 to 15 the entry's index."
-  pub unsound-exactly-when : (number index : ℕ)
-      → (trace .answer .ending ≡ Unsound number index) ↔ (Opened stack lies limit old × (verdict s ≡ verdict.Refused number index))
+  -- the ending itself at the door, with each of the three
+  pub door-exactly-when : (number : ℕ) → (trace .answer .ending ≡ Shut number) ↔ AtDoor stack lies limit old number
   unfolding traceOf traced tracedAs
-  unsound-exactly-when number index = (
-    λ e.
-        let (none, opened, refused) = subst (Case s stack lies registers limit old (walk .frames)) e some-case in
-        (opened, refused),
-    λ h. ap (λ w. w .ending) (case-whole s stack lies registers limit old [] (Unsound number index) (refl, h .0, h .1)),
+  door-exactly-when number = (
+    λ e. subst (Case s stack lies registers limit old (walk .frames)) e some-case .1,
+    λ at. ap (λ w. w .ending) (case-whole s stack lies registers limit old [] (Shut number) (refl, at)),
   )
 
-  pub number-1-to-15-exactly-when : (number : ℕ) → 1 ≤ number → number ≤ 15
-      → (endingNumber (trace .answer .ending) ≡ number)
-      ↔ (Opened stack lies limit old × ((index : ℕ) × (verdict s ≡ verdict.Refused number index)))
+  -- "then 1 to 15. These .. answer 0 frames with their number, and for 1 to 15 the entry's index."
+  pub unsound-exactly-when : (rule : Rule) (index : ℕ)
+      → (trace .answer .ending ≡ Unsound (numberOfRule rule) index) ↔ (DoorOpen stack lies limit old × accept.Given s rule index)
   unfolding traceOf traced tracedAs
-  number-1-to-15-exactly-when = section-given s stack lies registers limit old
+  unsound-exactly-when rule index = (
+    λ e.
+        let (none, opened, other, is, given) = subst (Case s stack lies registers limit old (walk .frames)) e some-case in
+        (opened, rw (by-number rule other is) given),
+    λ h. ap (λ w. w .ending) (case-whole s stack lies registers limit old [] (Unsound (numberOfRule rule) index) (refl, h .0, rule, refl, h .1)),
+  )
 
-  -- "A refused step ends it with its own number, 21 to 28."
-  pub refused-exactly-when : (number : ℕ) → 21 ≤ number → number ≤ 28
-      → (endingNumber (trace .answer .ending) ≡ number) ↔ ((frames : List Frame) × Walks s stack lies registers limit old frames (Refused number))
-  unfolding traceOf traced tracedAs
-  refused-exactly-when = step-given s stack lies registers limit old
+  pub rule-exactly-when : (rule : Rule)
+      → (endingNumber (trace .answer .ending) ≡ numberOfRule rule) ↔ (DoorOpen stack lies limit old × BrokenFirst s rule)
+  unfolding numberOfTraceCause
+  rule-exactly-when rule = number-exactly-when (unsound rule)
+
+  -- an index comes with 1 to 15 alone
+  pub index-exactly-when : (index : ℕ)
+      → (endingIndexes (trace .answer .ending) ≡ index ∷ []) ↔ (DoorOpen stack lies limit old × (rule : Rule) × accept.Given s rule index)
+  unfolding endingIndexes traceOf traced tracedAs
+  index-exactly-when index = (
+    carried (walk .frames) (walk .ending) some-case,
+    λ h. ap endingIndexes (unsound-exactly-when (h .1) index .1 (h .0, h .2)),
+  )
+    where
+      carried : (frames : List Frame) (ending : Ending) → Case s stack lies registers limit old frames ending → endingIndexes ending ≡ index ∷ []
+          → DoorOpen stack lies limit old × (rule : Rule) × accept.Given s rule index
+      carried frames Outermost h is = absurd (let z : _≡_ {A = ℕ} 0 1 = cc in omega arith)
+      carried frames Full h is = absurd (let z : _≡_ {A = ℕ} 0 1 = cc in omega arith)
+      carried frames (Refused n) h is = absurd (let z : _≡_ {A = ℕ} 0 1 = cc in omega arith)
+      carried frames (Shut n) h is = absurd (let z : _≡_ {A = ℕ} 0 1 = cc in omega arith)
+      carried frames (Unsound n other) (none, opened, rule, number-is, given) is =
+          let e : other ≡ index = cc in
+          (opened, rule, rw e at given)
+
+  -- "A refused step ends it with its own number, 21 to 28.": the refusal is that step's own
+  pub refused-exactly-when : (refusal : Refusal)
+      → (endingNumber (trace .answer .ending) ≡ numberOfRefusal refusal)
+      ↔ ((frames : List Frame)
+      × WalkMade s stack lies registers limit old frames (EndsRefused (λ last. OnRefusal s stack lies last refusal) (inForce limit)))
+  unfolding numberOfTraceCause
+  refused-exactly-when refusal = number-exactly-when (refused refusal)
 
   -- "RA 0 ends it with 30 (outermost), also in the last allowed frame"
   pub number-30-exactly-when : (endingNumber (trace .answer .ending) ≡ 30)
-      ↔ ((frames : List Frame) × Walks s stack lies registers limit old frames Outermost)
-  unfolding traceOf traced tracedAs
-  number-30-exactly-when = outermost-given s stack lies registers limit old
+      ↔ ((frames : List Frame) × WalkMade s stack lies registers limit old frames (EndsOutermost (inForce limit)))
+  unfolding numberOfTraceCause
+  number-30-exactly-when = number-exactly-when outermost
 
   -- "otherwise a full limit ends it with 31."
   pub number-31-exactly-when : (endingNumber (trace .answer .ending) ≡ 31)
-      ↔ ((frames : List Frame) × Walks s stack lies registers limit old frames Full)
-  unfolding traceOf traced tracedAs
-  number-31-exactly-when = full-given s stack lies registers limit old
+      ↔ ((frames : List Frame) × WalkMade s stack lies registers limit old frames (EndsFull (inForce limit)))
+  unfolding numberOfTraceCause
+  number-31-exactly-when = number-exactly-when full
 
   -- ---- frames
 
   -- "The walk starts with the mark set and writes each frame that a step yields.": frame 0 is the step from the registers handed in,
   -- with the mark, and each other frame the step from the registers of the one before it
-  pub frames-follow : Follows (stepAt s stack lies) (withMark registers) (walk .frames)
+  pub frames-follow : Follows (CallerCase s stack lies) (withMark registers) (walk .frames)
   frames-follow = whole-follows s stack lies registers limit old
 
   pub frame-count : trace .answer .frames ≡ length (walk .frames)
@@ -167,16 +221,21 @@ module _ (s stack : List ℕ) (lies : Where) (registers : Registers) (limit : �
         rw words-are (over-first (allWords (walk .frames)) old (3 * k + 2) (omega arith)) ∙ fp,
       )
 
-  -- the same by the registers that the steps yield: "The caller has PC = RA, SP = CFA, the new FP"
-  pub words-follow : (k : ℕ) → k < trace .answer .frames
-      → (getD (trace .words) (3 * k) 0 ≡ frames-follow .at (suc k) .sp)
+  -- the step that yields frame k
+  pub step-of : (k : ℕ) → k < trace .answer .frames → CallerCase s stack lies (frames-follow .at k) (frames-follow .at (suc k))
+  step-of k lt = frames-follow .steps k (rw frame-count at lt)
+
+  -- the same by the registers that the steps yield: CFA is the one that the step's row defines, RA the caller's PC, FP its FP
+  pub words-follow : (k : ℕ) (lt : k < trace .answer .frames)
+      → (getD (trace .words) (3 * k) 0 ≡ step-of k lt .cfa)
       × (getD (trace .words) (3 * k + 1) 0 ≡ frames-follow .at (suc k) .pc)
       × (getD (trace .words) (3 * k + 2) 0 ≡ frames-follow .at (suc k) .fp)
   unfolding frameOf
   words-follow k lt =
       let is = frames-follow .written k (rw frame-count at lt) in
       let (cfa, ra, fp) = words-written k lt in
-      (cfa ∙ ap (λ f. f .cfa) is, ra ∙ ap (λ f. f .ra) is, fp ∙ ap (λ f. f .fp) is)
+      let row-cfa = ap cfaOfSp (step-of k lt .sp-is) ∙ cfa-of-caller (step-of k lt .cfa) in
+      (cfa ∙ ap (λ f. f .cfa) is ∙ row-cfa, ra ∙ ap (λ f. f .ra) is, fp ∙ ap (λ f. f .fp) is)
 
   -- "Words after the written frames keep what they held."
   pub words-kept : drop (3 * trace .answer .frames) (trace .words) ≡ drop (3 * trace .answer .frames) old
@@ -191,23 +250,23 @@ module _ (s stack : List ℕ) (lies : Where) (registers : Registers) (limit : �
   words-length = rw words-are (over-length (allWords (walk .frames)) old (omega (arith, all-length (walk .frames), fits)))
 
   -- "These write nothing and answer 0 frames": where the trace is refused at its door, or the section by 1 to 15
-  pub writes-nothing : ¬ (Opened stack lies limit old × (verdict s ≡ verdict.Accepted)) → (trace .answer .frames ≡ 0) × (trace .words ≡ old)
+  pub writes-nothing : ¬ (DoorOpen stack lies limit old × Obeys s) → (trace .answer .frames ≡ 0) × (trace .words ≡ old)
   unfolding over allWords
-  writes-nothing refused =
-      let none : walk .frames ≡ [] = whole-none s stack lies registers limit old refused in
+  writes-nothing none-walks =
+      let none : walk .frames ≡ [] = whole-none s stack lies registers limit old none-walks in
       (frame-count ∙ ap length none, words-are ∙ ap (λ l. over (allWords l) old) none)
 
   -- the same by the ending
-  pub door-writes-nothing : (number : ℕ) → 41 ≤ number → endingNumber (trace .answer .ending) ≡ number
-      → (trace .answer .frames ≡ 0) × (trace .words ≡ old)
-  unfolding traceOf traced tracedAs
-  door-writes-nothing number least e =
-      writes-nothing λ h. not-open stack lies limit old number (door-given s stack lies registers limit old number least .0 e) (h .0)
+  pub door-writes-nothing : (number : ℕ) → trace .answer .ending ≡ Shut number → (trace .answer .frames ≡ 0) × (trace .words ≡ old)
+  door-writes-nothing number e = writes-nothing λ h. not-open stack lies limit old number (door-exactly-when number .0 e) (h .0)
 
   pub unsound-writes-nothing : (number index : ℕ) → trace .answer .ending ≡ Unsound number index
       → (trace .answer .frames ≡ 0) × (trace .words ≡ old)
+  unfolding traceOf traced tracedAs
   unsound-writes-nothing number index e =
-      writes-nothing λ h. accepted-or-refused (sym (h .1) ∙ unsound-exactly-when number index .0 e .1)
+      let (none, opened, rule, is, given) = subst (Case s stack lies registers limit old (walk .frames)) e some-case in
+      writes-nothing λ h.
+      accepted-or-refused (sym (accepted-exactly-when s .1 (h .1)) ∙ given-exactly-when s rule index .1 given)
 
 -- ---- a trace knows its section by its shape and by what a lookup finds at each PC, alone
 
@@ -219,6 +278,6 @@ pub trace-through-look : (s other stack : List ℕ) (lies : Where) (registers : 
     → verdict s ≡ verdict.Accepted → verdict other ≡ verdict.Accepted → shapeOf s ≡ shapeOf other
     → ((pc : ℕ) → lookIn s (lies .section) pc ≡ lookIn other (lies .section) pc)
     → traceOf s stack lies registers limit old ≡ traceOf other stack lies registers limit old
-unfolding traceOf walkIn afterCheck checkedWalk
+unfolding traceOf walkIn walkAfter checkedWalk
 trace-through-look s other stack lies registers limit old accepted also shape look =
     rw (accepted, also, shape, fun-ext look)

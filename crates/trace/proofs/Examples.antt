@@ -7,17 +7,20 @@ use Prim.Native.Nat.{ℕ, zero, suc, _-_, _^_}
 use native.Mathlib.Omega.{arith}
 use lib.ListN.{length, getD, take, replicate}
 use Rattle.section.specs.SectionS.{sectionS}
-use Rattle.accept.specs.Checks.{verdict}
+use Rattle.accept.specs.computed.Checks.{verdict}
 use Rattle.caller.specs.declared.registers.Registers.{Registers}
 use Rattle.caller.specs.declared.registers.Step.{Step}
 use Rattle.caller.specs.declared.registers.Step.the-variants as stepped
 use Rattle.caller.specs.declared.registers.Where.{Where}
-use Rattle.trace.specs.Cases.{noFrame, stepAt, Walks}
-use Rattle.trace.specs.Opened.{traceOpened}
-use Rattle.trace.specs.Trace.{Walk, Trace, inForce, frameOf, ended, withFrame, unlessOutermost, onward, walkOf, withMark, doorFault, afterDoor, afterCheck, allWords, over, tracedAs, traced, traceOf, endingNumber}
-use Rattle.trace.specs.declared.answer.Ending.the-variants.{Outermost, Full, Refused, Unsound}
+use Rattle.trace.specs.Cases.{noFrame, EndsOutermost, WalkMade}
+use Rattle.trace.specs.Frames.{TraceReply, inForce, frameOf, withMark, allWords, over, tracedAs}
+use Rattle.trace.specs.Numbers.{endingNumber}
+use Rattle.trace.specs.computed.Trace.{Walk, ended, withFrame, unlessOutermost, onward, walkOf, doorFault, afterDoor, walkAfter, traced, traceOf}
+use Rattle.trace.specs.inner.Opened.{traceOpened}
+use Rattle.trace.specs.declared.answer.Ending.the-variants.{Outermost, Full, Refused, Shut, Unsound}
 use Rattle.trace.specs.declared.answer.Frame.{Frame}
 use Rattle.trace.proofs.Exactly.{number-30-exactly-when}
+use Rattle.trace.proofs.TraceLaws.{stepAt}
 
 -- ---- "PC 0x401044, SP 0x7000, FP 0x7030; stack at 0x7000, 64 bytes, all zero but the word 0x401008 at 0x7000"; LR and the mark
 -- are any
@@ -40,8 +43,8 @@ K10 lr first a b c d e f = refl
 
 -- so the case of 30 in specs/Cases holds here
 K10-case : (lr first a b c d e f : ℕ)
-    → (frames : List Frame) × Walks sectionS stack lies (registers lr first) 2 (a ∷ b ∷ c ∷ d ∷ e ∷ f ∷ []) frames Outermost
-unfolding tracedAs endingNumber
+    → (frames : List Frame) × WalkMade sectionS stack lies (registers lr first) 2 (a ∷ b ∷ c ∷ d ∷ e ∷ f ∷ []) frames (EndsOutermost 2)
+unfolding tracedAs endingNumber inForce
 K10-case lr first a b c d e f =
     number-30-exactly-when sectionS stack lies (registers lr first) 2 (a ∷ b ∷ c ∷ d ∷ e ∷ f ∷ []) .0
     (ap (λ t. endingNumber (t .answer .ending)) (K10 lr first a b c d e f))
@@ -69,31 +72,31 @@ K12 lr first a b c d e f = refl
 
 -- ---- refused before the walk: no frames, and the buffer as it was
 
--- what a trace answers that is refused so
-refusedWith : ℕ → List ℕ → Trace
-refusedWith number old = tracedAs (record { ending = Refused number; frames = 0 }) old
+-- what a trace answers that is refused at its door
+shutWith : ℕ → List ℕ → TraceReply
+shutWith number old = tracedAs (record { ending = Shut number; frames = 0 }) old
 
 -- one past the end of memory; the limit and the buffer are wrong as well
-past-memory : traceOf [] (0 ∷ 0 ∷ []) (record { section = 0; stack = 2 ^ 64 - 1 }) (registers 0 0) 257 [] ≡ refusedWith 41 []
-unfolding traceOpened registers refusedWith
+past-memory : traceOf [] (0 ∷ 0 ∷ []) (record { section = 0; stack = 2 ^ 64 - 1 }) (registers 0 0) 257 [] ≡ shutWith 41 []
+unfolding traceOpened registers shutWith
 past-memory = refl
 
 -- a window may end where memory does
-limit-above : traceOf [] (0 ∷ 0 ∷ []) (record { section = 0; stack = 2 ^ 64 - 2 }) (registers 0 0) 257 [] ≡ refusedWith 42 []
-unfolding traceOpened registers refusedWith
+limit-above : traceOf [] (0 ∷ 0 ∷ []) (record { section = 0; stack = 2 ^ 64 - 2 }) (registers 0 0) 257 [] ≡ shutWith 42 []
+unfolding traceOpened registers shutWith
 limit-above = refl
 
-too-few-words : traceOf sectionS stack lies (registers 0 0) 2 (replicate 5 7) ≡ refusedWith 43 (replicate 5 7)
-unfolding traceOpened sectionS stack lies registers refusedWith
+too-few-words : traceOf sectionS stack lies (registers 0 0) 2 (replicate 5 7) ≡ shutWith 43 (replicate 5 7)
+unfolding traceOpened sectionS stack lies registers shutWith
 too-few-words = refl
 
-most-words : traceOf [] stack lies (registers 0 0) 256 (replicate 767 7) ≡ refusedWith 43 (replicate 767 7)
-unfolding traceOpened stack lies registers refusedWith
+most-words : traceOf [] stack lies (registers 0 0) 256 (replicate 767 7) ≡ shutWith 43 (replicate 767 7)
+unfolding traceOpened stack lies registers shutWith
 most-words = refl
 
 -- "Limit 0 means 64": 192 words
-limit-0 : traceOf [] stack lies (registers 0 0) 0 (replicate 191 7) ≡ refusedWith 43 (replicate 191 7)
-unfolding traceOpened stack lies registers refusedWith
+limit-0 : traceOf [] stack lies (registers 0 0) 0 (replicate 191 7) ≡ shutWith 43 (replicate 191 7)
+unfolding traceOpened stack lies registers shutWith
 limit-0 = refl
 
 limit-0-fits : traceOf [] stack lies (registers 0 0) 0 (replicate 192 7)
@@ -107,10 +110,10 @@ limit-0-fits = refl
 abbrev Walking : Type 0
 Walking = (Registers → Step) → ℕ → Registers → Walk
 
-traceBy : Walking → (Registers → Registers) → (Walk → List ℕ → Trace) → List ℕ → List ℕ → Where → Registers → ℕ → List ℕ → Trace
+traceBy : Walking → (Registers → Registers) → (Walk → List ℕ → TraceReply) → List ℕ → List ℕ → Where → Registers → ℕ → List ℕ → TraceReply
 traceBy walk start leave s window at from limit old =
     leave
-    (afterDoor (doorFault window at limit (length old)) (afterCheck (verdict s) (walk (stepAt s window at) (inForce limit) (start from))))
+    (afterDoor (doorFault window at limit (length old)) (walkAfter (verdict s) (walk (stepAt s window at) (inForce limit) (start from))))
     old
 
 ours : (s window : List ℕ) (at : Where) (from : Registers) (limit : ℕ) (old : List ℕ)
@@ -119,14 +122,14 @@ unfolding traceOpened traceBy
 ours s window at from limit old = refl
 
 -- K10, with eight words of 7
-K10-by : Walking → (Registers → Registers) → (Walk → List ℕ → Trace) → Trace
+K10-by : Walking → (Registers → Registers) → (Walk → List ℕ → TraceReply) → TraceReply
 K10-by walk start leave = traceBy walk start leave sectionS stack lies (registers 0 0) 2 (replicate 8 7)
 
-K10-ours : Trace
+K10-ours : TraceReply
 K10-ours = traceOf sectionS stack lies (registers 0 0) 2 (replicate 8 7)
 
 -- "a trace that writes nothing"
-silent : Walk → List ℕ → Trace
+silent : Walk → List ℕ → TraceReply
 silent walk old = tracedAs (record { ending = walk .ending; frames = length (walk .frames) }) old
 
 silent-differs : ¬ (K10-by walkOf withMark silent ≡ K10-ours)
@@ -134,7 +137,7 @@ unfolding traceOpened sectionS stack lies registers traceBy K10-by K10-ours sile
 silent-differs e = let z : _≡_ {A = ℕ} 7 0x7008 = ap (λ t. getD (t .words) 0 0) e in omega arith
 
 -- a word past the frames is written
-overrun : Walk → List ℕ → Trace
+overrun : Walk → List ℕ → TraceReply
 overrun walk old =
     tracedAs (record { ending = walk .ending; frames = length (walk .frames) }) (over (allWords (walk .frames) ++ (0 ∷ [])) old)
 
@@ -191,11 +194,12 @@ marked-trace : traceOf sectionS stack lies atSp 1 (7 ∷ 7 ∷ 7 ∷ [])
 unfolding traceOpened sectionS stack lies atSp
 marked-trace = refl
 
-unmarked-trace : traceBy walkOf (λ from. from) traced sectionS stack lies atSp 1 (7 ∷ 7 ∷ 7 ∷ []) ≡ refusedWith 26 (7 ∷ 7 ∷ 7 ∷ [])
-unfolding traceOpened sectionS stack lies atSp traceBy refusedWith
+unmarked-trace : traceBy walkOf (λ from. from) traced sectionS stack lies atSp 1 (7 ∷ 7 ∷ 7 ∷ [])
+    ≡ tracedAs (record { ending = Refused 26; frames = 0 }) (7 ∷ 7 ∷ 7 ∷ [])
+unfolding traceOpened sectionS stack lies atSp traceBy
 unmarked-trace = refl
 
 unmarked-differs : ¬ (traceBy walkOf (λ from. from) traced sectionS stack lies atSp 1 (7 ∷ 7 ∷ 7 ∷ [])
     ≡ traceOf sectionS stack lies atSp 1 (7 ∷ 7 ∷ 7 ∷ []))
-unfolding tracedAs refusedWith
+unfolding tracedAs
 unmarked-differs e = let z : _≡_ {A = ℕ} 0 1 = ap (λ t. t .answer .frames) (sym unmarked-trace ∙ e ∙ marked-trace) in omega arith

@@ -5,12 +5,13 @@ use mathlib.Core.List.{List}
 use Prim.Native.Nat.{ℕ, _+_, _*_, _-_, _≤_, _<_}
 use native.Mathlib.Omega.{arith}
 use lib.ListN.{length}
-use Rattle.caller.specs.Caller.{stepNumber}
+use Rattle.caller.specs.Numbers.{stepNumber}
 use Rattle.caller.specs.declared.registers.Registers.{Registers}
 use Rattle.caller.specs.declared.registers.Step.{Step}
 use Rattle.caller.specs.declared.registers.Step.the-variants as stepped
-use Rattle.trace.specs.Inner.{withoutMark, put}
-use Rattle.trace.specs.Trace.{frameOf, wordsOf, ended, walkOf, tracedAs, traced}
+use Rattle.trace.specs.Frames.{frameOf, wordsOf, tracedAs}
+use Rattle.trace.specs.computed.Trace.{ended, walkOf, traced}
+use Rattle.trace.specs.inner.Writing.{withoutMark, put}
 use Rattle.trace.specs.declared.answer.Ending.the-variants.{Outermost, Full, Refused}
 use Rattle.trace.proofs.BufferLaws.{put-length}
 use Rattle.trace.proofs.WalkLaws.{tracedFrom, begins, ends, writes-next, walk-no-caller, walk-outermost, walk-on, walk-full}

@@ -4,5 +4,6 @@ pub mod DoorLaws
 pub mod Exactly
 mod Examples
 pub mod GoingLaws
+pub mod NumberLaws
 pub mod TraceLaws
 pub mod WalkLaws

@@ -1,4 +1,5 @@
--- The whole trace: its walk has these frames and this ending exactly when its case holds, and what the number of the ending tells.
+-- The whole trace: its walk has these frames and this ending exactly when its case holds (`trace-case`, `case-whole`), and each number is
+-- given exactly when its cause holds (`trace-given`).
 -- Assumes nothing.
 use mathlib.Core.Path.{_≡_, refl, sym, _∙_, ap, subst}
 use mathlib.Core.List.{List, []}
@@ -6,19 +7,71 @@ use mathlib.Core.Logic.{_⊎_, inl, inr, _↔_, ⊎-elim}
 use Prim.Native.Nat.{ℕ, _≤_}
 use native.Mathlib.Omega.{arith}
 use lib.ListN.{length}
-use Rattle.accept.specs.Checks.{verdict}
-use Rattle.accept.specs.declared.verdict.Verdict.the-variants as verdict
-use Rattle.accept.proofs.Exactly.{verdict-number}
+use Rattle.section.specs.Meaning.{shapeOf}
+use Rattle.accept.specs.Given.{numberOfRule}
+use Rattle.accept.specs.Rules.{Obeys}
+use Rattle.accept.proofs.CauseLaws.{due-exactly-when}
+use Rattle.accept.proofs.Exactly.{accepted-exactly-when, given-exactly-when, refused-by-a-rule}
+use Rattle.lookup.specs.computed.Answers.{lookIn}
+use Rattle.caller.specs.Cases.{WindowFits, OnRefusal, CallerCase}
+use Rattle.caller.specs.Numbers.{Refusal, numberOfRefusal, numberOfStepCause, stepNumber}
+use Rattle.caller.specs.computed.Caller.{stepOf}
 use Rattle.caller.specs.declared.registers.Registers.{Registers}
+use Rattle.caller.specs.declared.registers.Step.{Step}
+use Rattle.caller.specs.declared.registers.Step.the-variants as stepped
 use Rattle.caller.specs.declared.registers.Where.{Where}
-use Rattle.caller.proofs.Exactly.{checked-numbers}
-use Rattle.trace.specs.Cases.{AtDoor, Opened, Follows, stepAt, Walks, Case}
-use Rattle.trace.specs.Trace.{Walk, inForce, ended, withMark, checkedWalk, walkIn, endingNumber}
+use Rattle.caller.proofs.Exactly.{checked-caller, checked-refused, refused-checked}
+use Rattle.trace.specs.Cases.{AtDoor, DoorOpen, Follows, EndsRefused, Ends, WalkTo, StepRefuses, WalkMade, WalkEnded, OnTrace, Case}
+use Rattle.trace.specs.Frames.{inForce, withMark}
+use Rattle.trace.specs.Numbers.{TraceCause, window, limitAbove, tooFewWords, unsound, refused, outermost, full, numberOfTraceCause, endingNumber}
+use Rattle.trace.specs.computed.Trace.{Walk, ended, walkOf, checkedWalk, walkIn}
 use Rattle.trace.specs.declared.answer.Ending.{Ending}
-use Rattle.trace.specs.declared.answer.Ending.the-variants.{Outermost, Full, Refused, Unsound}
+use Rattle.trace.specs.declared.answer.Ending.the-variants.{Outermost, Full, Refused, Shut, Unsound}
 use Rattle.trace.specs.declared.answer.Frame.{Frame}
-use Rattle.trace.proofs.CaseLaws.{none-follows, case-within, walk-case, case-walk}
-use Rattle.trace.proofs.DoorLaws.{door-number, shut-walk, unsound-walk, open-walk, Way, shut, unsound, sound, way}
+use Rattle.trace.proofs.CaseLaws.{Yielding, Refusing, none-follows, case-within, walk-case, case-walk, walk-through, ends-through}
+use Rattle.trace.proofs.DoorLaws.{shut-walk, unsound-walk, open-walk, Way, shut, unsound-way, sound, way}
+use Rattle.trace.proofs.NumberLaws.{trace-distinct}
+
+-- ---- one step in a section that obeys, as it is computed and by its cases
+
+-- where the door is open, the window fits
+pub open-fits : {stack : List ℕ} {lies : Where} {limit : ℕ} {buffer : List ℕ} → DoorOpen stack lies limit buffer → WindowFits stack lies
+open-fits opened = omega (arith, opened .in-memory)
+
+module _ (s stack : List ℕ) (lies : Where) where
+  abbrev pub stepAt : Registers → Step
+  stepAt = stepOf (shapeOf s) (lookIn s (lies .section)) stack lies
+
+  module _ (fits : WindowFits stack lies) (obeys : Obeys s) where
+    refuses-with : (registers : Registers) (number : ℕ) → Refusing stepAt registers number → StepRefuses s stack lies registers number
+    unfolding stepNumber
+    refuses-with registers number h =
+        let refusal = checked-refused s stack lies registers fits obeys (h .no-caller) in
+        (refusal .0, sym (h .number-is) ∙ ap stepNumber (refusal .1), refusal .2)
+
+    with-refuses : (registers : Registers) (number : ℕ) → StepRefuses s stack lies registers number → Refusing stepAt registers number
+    unfolding stepNumber
+    with-refuses registers number (refusal, is, on) =
+        let made = refused-checked s stack lies registers fits obeys refusal on in
+        record { no-caller = λ caller e. not-both (sym made ∙ e); number-is = ap stepNumber made ∙ sym is }
+      where
+        not-both : {old : Registers} {n : ℕ} {caller : Registers} → ¬ (stepped.Refused old n ≡ stepped.Caller caller)
+        not-both e = let z : _≡_ {A = ℕ} 0 1 = cc in omega arith
+
+    module _ (limit : ℕ) {start : Registers} {frames : List Frame} (ending : Ending) where
+      by-cases : WalkTo (Yielding stepAt) start frames (λ count last. Ends (Refusing stepAt) limit count last ending)
+          → WalkTo (CallerCase s stack lies) start frames (λ count last. Ends (StepRefuses s stack lies) limit count last ending)
+      by-cases w =
+          walk-through (λ registers caller. checked-caller s stack lies registers fits obeys caller .0)
+          (ends-through refuses-with limit ending)
+          w
+
+      as-computed : WalkTo (CallerCase s stack lies) start frames (λ count last. Ends (StepRefuses s stack lies) limit count last ending)
+          → WalkTo (Yielding stepAt) start frames (λ count last. Ends (Refusing stepAt) limit count last ending)
+      as-computed w =
+          walk-through (λ registers caller. checked-caller s stack lies registers fits obeys caller .1)
+          (ends-through with-refuses limit ending)
+          w
 
 module _ (s stack : List ℕ) (lies : Where) (registers : Registers) (limit : ℕ) (buffer : List ℕ) where
   abbrev whole : Walk
@@ -27,35 +80,40 @@ module _ (s stack : List ℕ) (lies : Where) (registers : Registers) (limit : �
   abbrev Cased : Walk → Type 0
   Cased walk = Case s stack lies registers limit buffer (walk .frames) (walk .ending)
 
-  abbrev Walked : List Frame → Ending → Type 0
-  Walked frames ending = Walks s stack lies registers limit buffer frames ending
+  abbrev Made : List Frame → Ending → Type 0
+  Made frames ending = WalkEnded s stack lies registers limit buffer frames ending
 
   -- ---- the walk and its case
 
-  walks-case : (frames : List Frame) (ending : Ending) → Walked frames ending → Case s stack lies registers limit buffer frames ending
-  walks-case frames Outermost w = w
-  walks-case frames Full w = w
-  walks-case frames (Refused number) w = inr w
-  walks-case frames (Unsound number index) w = absurd (w .walk .ends)
+  made-case : (frames : List Frame) (ending : Ending) → Made frames ending → Case s stack lies registers limit buffer frames ending
+  made-case frames Outermost w = w
+  made-case frames Full w = w
+  made-case frames (Refused number) w = w
+  made-case frames (Shut number) w = absurd (w .walk .ends)
+  made-case frames (Unsound number index) w = absurd (w .walk .ends)
 
   case-by : Way stack lies limit buffer s → Cased whole
   unfolding ended checkedWalk
-  case-by (shut number at) = subst Cased (sym (shut-walk s stack lies registers limit buffer number at)) (inl (refl, at))
-  case-by (unsound opened number index e) =
-      subst Cased (sym (unsound-walk s stack lies registers limit buffer opened number index e)) (refl, opened, e)
+  case-by (shut number at) = subst Cased (sym (shut-walk s stack lies registers limit buffer number at)) (refl, at)
+  case-by (unsound-way opened number index e) =
+      let broken = refused-by-a-rule s number index e in
+      subst Cased (sym (unsound-walk s stack lies registers limit buffer opened number index e)) (refl, opened, broken .0, broken .1, broken .2)
   case-by (sound opened e) =
-      let walk = walk-case (stepAt s stack lies) (inForce limit) (withMark registers) in
+      let obeys = accepted-exactly-when s .0 e in
+      let walk : Walk = walkOf (stepAt s stack lies) (inForce limit) (withMark registers) in
+      let case = by-cases s stack lies (open-fits opened) obeys (inForce limit) (walk .ending) (walk-case (stepAt s stack lies) (inForce limit) (withMark registers)) in
       subst Cased (sym (open-walk s stack lies registers limit buffer opened e))
-      (walks-case _ _ (record { opened = opened; accepted = e; walk = walk }))
+      (made-case (walk .frames) (walk .ending) (record { opened = opened; obeys = obeys; walk = case }))
 
   pub trace-case : Cased whole
   trace-case = case-by (way stack lies limit buffer s)
 
-  walks-whole : (frames : List Frame) (ending : Ending) → Walked frames ending → whole ≡ record { frames = frames; ending = ending }
+  made-whole : (frames : List Frame) (ending : Ending) → Made frames ending → whole ≡ record { frames = frames; ending = ending }
   unfolding checkedWalk
-  walks-whole frames ending w =
-      open-walk s stack lies registers limit buffer (w .opened) (w .accepted)
-      ∙ case-walk (stepAt s stack lies) (inForce limit) (withMark registers) frames ending (w .walk)
+  made-whole frames ending w =
+      open-walk s stack lies registers limit buffer (w .opened) (accepted-exactly-when s .1 (w .obeys))
+      ∙ case-walk (stepAt s stack lies) (inForce limit) (withMark registers) frames ending
+      (as-computed s stack lies (open-fits (w .opened)) (w .obeys) (inForce limit) ending (w .walk))
 
   none-whole : (frames : List Frame) (ending : Ending) → frames ≡ [] → whole ≡ ended ending → whole ≡ record { frames = frames; ending = ending }
   unfolding ended
@@ -63,124 +121,93 @@ module _ (s stack : List ℕ) (lies : Where) (registers : Registers) (limit : �
 
   pub case-whole : (frames : List Frame) (ending : Ending) → Case s stack lies registers limit buffer frames ending
       → whole ≡ record { frames = frames; ending = ending }
-  case-whole frames Outermost h = walks-whole frames Outermost h
-  case-whole frames Full h = walks-whole frames Full h
-  case-whole frames (Refused number) (inl h) =
-      none-whole frames (Refused number) (h .0) (shut-walk s stack lies registers limit buffer number (h .1))
-  case-whole frames (Refused number) (inr h) = walks-whole frames (Refused number) h
-  case-whole frames (Unsound number index) h =
-      none-whole frames (Unsound number index) (h .0) (unsound-walk s stack lies registers limit buffer (h .1) number index (h .2))
+  case-whole frames Outermost h = made-whole frames Outermost h
+  case-whole frames Full h = made-whole frames Full h
+  case-whole frames (Refused number) h = made-whole frames (Refused number) h
+  case-whole frames (Shut number) h = none-whole frames (Shut number) (h .0) (shut-walk s stack lies registers limit buffer number (h .1))
+  case-whole frames (Unsound number index) (none, opened, rule, is, given) =
+      none-whole frames (Unsound number index) none
+      (unsound-walk s stack lies registers limit buffer opened number index (rw is (given-exactly-when s rule index .1 given)))
 
   -- ---- what every case has: no frames, or a walk
 
   case-parts : (frames : List Frame) (ending : Ending) → Case s stack lies registers limit buffer frames ending
-      → (frames ≡ []) ⊎ Walked frames ending
+      → (frames ≡ []) ⊎ Made frames ending
   case-parts frames Outermost h = inr h
   case-parts frames Full h = inr h
-  case-parts frames (Refused number) (inl h) = inl (h .0)
-  case-parts frames (Refused number) (inr h) = inr h
+  case-parts frames (Refused number) h = inr h
+  case-parts frames (Shut number) h = inl (h .0)
   case-parts frames (Unsound number index) h = inl (h .0)
 
-  parts : (whole .frames ≡ []) ⊎ Walked (whole .frames) (whole .ending)
+  pub parts : (whole .frames ≡ []) ⊎ Made (whole .frames) (whole .ending)
   parts = case-parts (whole .frames) (whole .ending) trace-case
 
-  pub whole-follows : Follows (stepAt s stack lies) (withMark registers) (whole .frames)
-  whole-follows = ⊎-elim (λ none. rw none (none-follows (stepAt s stack lies) (withMark registers))) (λ w. w .walk .follows) parts
+  pub whole-follows : Follows (CallerCase s stack lies) (withMark registers) (whole .frames)
+  whole-follows = ⊎-elim (λ none. rw none (none-follows (withMark registers))) (λ w. w .walk .follows) parts
 
-  pub whole-room : (length (whole .frames) ≡ 0) ⊎ (Opened stack lies limit buffer × (length (whole .frames) ≤ inForce limit))
-  whole-room = ⊎-elim (λ none. inl (ap length none)) (λ w. inr (w .opened, case-within (stepAt s stack lies) (w .walk))) parts
+  ends-within : (frames : List Frame) (ending : Ending) → Made frames ending → length frames ≤ inForce limit
+  ends-within frames ending w =
+      case-within (stepAt s stack lies) (inForce limit) ending
+      (as-computed s stack lies (open-fits (w .opened)) (w .obeys) (inForce limit) ending (w .walk))
 
-  pub whole-none : ¬ (Opened stack lies limit buffer × (verdict s ≡ verdict.Accepted)) → whole .frames ≡ []
-  whole-none refused = ⊎-elim (λ none. none) (λ w. absurd (refused (w .opened, w .accepted))) parts
+  pub whole-room : (length (whole .frames) ≡ 0) ⊎ (DoorOpen stack lies limit buffer × (length (whole .frames) ≤ inForce limit))
+  whole-room = ⊎-elim (λ none. inl (ap length none)) (λ w. inr (w .opened, ends-within (whole .frames) (whole .ending) w)) parts
 
-  -- ---- what a number tells: whose it is
+  pub whole-none : ¬ (DoorOpen stack lies limit buffer × Obeys s) → whole .frames ≡ []
+  whole-none refuses = ⊎-elim (λ none. none) (λ w. absurd (refuses (w .opened, w .obeys))) parts
 
-  data Told (number : ℕ) : Type 0 where
-    at-door : 41 ≤ number → AtDoor stack lies limit buffer number → Told number
-    of-section : (1 ≤ number) × (number ≤ 15) → Opened stack lies limit buffer → (index : ℕ) → verdict s ≡ verdict.Refused number index
-        → Told number
-    of-step : (number ≡ 0) ⊎ ((21 ≤ number) × (number ≤ 28)) → (frames : List Frame) → Walked frames (Refused number) → Told number
-    outermost : number ≡ 30 → (frames : List Frame) → Walked frames Outermost → Told number
-    full : number ≡ 31 → (frames : List Frame) → Walked frames Full → Told number
+  -- ---- each number is given exactly when its cause holds
 
-  tell : (frames : List Frame) (ending : Ending) → Case s stack lies registers limit buffer frames ending → Told (endingNumber ending)
-  unfolding endingNumber
-  tell frames Outermost h = outermost refl frames h
-  tell frames Full h = full refl frames h
-  tell frames (Refused number) (inl h) = at-door (door-number stack lies limit buffer number (h .1) .0) (h .1)
-  tell frames (Refused number) (inr h) =
-      of-step (checked-numbers s (lies .section) stack lies (h .walk .follows .at (length frames)) number (h .walk .ends .2 .number-is)) frames h
-  tell frames (Unsound number index) h = of-section (verdict-number s number index (h .2)) (h .1) index (h .2)
-
-  told : (number : ℕ) → endingNumber (whole .ending) ≡ number → Told number
-  told number e = subst Told e (tell (whole .frames) (whole .ending) trace-case)
-
-  by-door : (number : ℕ) → 41 ≤ number → Told number → AtDoor stack lies limit buffer number
-  by-door number least (at-door low at) = at
-  by-door number least (of-section range opened index e) = absurd (omega arith)
-  by-door number least (of-step range frames w) = absurd (⊎-elim (λ h. omega arith) (λ h. omega arith) range)
-  by-door number least (outermost is frames w) = absurd (omega arith)
-  by-door number least (full is frames w) = absurd (omega arith)
-
-  by-section : (number : ℕ) → 1 ≤ number → number ≤ 15 → Told number
-      → Opened stack lies limit buffer × ((index : ℕ) × (verdict s ≡ verdict.Refused number index))
-  by-section number least most (at-door low at) = absurd (omega arith)
-  by-section number least most (of-section range opened index e) = (opened, (index, e))
-  by-section number least most (of-step range frames w) = absurd (⊎-elim (λ h. omega arith) (λ h. omega arith) range)
-  by-section number least most (outermost is frames w) = absurd (omega arith)
-  by-section number least most (full is frames w) = absurd (omega arith)
-
-  by-step : (number : ℕ) → 21 ≤ number → number ≤ 28 → Told number → (frames : List Frame) × Walked frames (Refused number)
-  by-step number least most (at-door low at) = absurd (omega arith)
-  by-step number least most (of-section range opened index e) = absurd (omega arith)
-  by-step number least most (of-step range frames w) = (frames, w)
-  by-step number least most (outermost is frames w) = absurd (omega arith)
-  by-step number least most (full is frames w) = absurd (omega arith)
-
-  by-outermost : (number : ℕ) → number ≡ 30 → Told number → (frames : List Frame) × Walked frames Outermost
-  by-outermost number e (at-door low at) = absurd (omega arith)
-  by-outermost number e (of-section range opened index is) = absurd (omega arith)
-  by-outermost number e (of-step range frames w) = absurd (⊎-elim (λ h. omega arith) (λ h. omega arith) range)
-  by-outermost number e (outermost is frames w) = (frames, w)
-  by-outermost number e (full is frames w) = absurd (omega arith)
-
-  by-full : (number : ℕ) → number ≡ 31 → Told number → (frames : List Frame) × Walked frames Full
-  by-full number e (at-door low at) = absurd (omega arith)
-  by-full number e (of-section range opened index is) = absurd (omega arith)
-  by-full number e (of-step range frames w) = absurd (⊎-elim (λ h. omega arith) (λ h. omega arith) range)
-  by-full number e (outermost is frames w) = absurd (omega arith)
-  by-full number e (full is frames w) = (frames, w)
-
-  -- ---- so each number is given exactly when its case holds
+  abbrev number : ℕ
+  number = endingNumber (whole .ending)
 
   number-of : (frames : List Frame) (ending : Ending) → Case s stack lies registers limit buffer frames ending
-      → endingNumber (whole .ending) ≡ endingNumber ending
+      → number ≡ endingNumber ending
   number-of frames ending h = ap (λ walk. endingNumber (walk .ending)) (case-whole frames ending h)
 
-  pub door-given : (number : ℕ) → 41 ≤ number → (endingNumber (whole .ending) ≡ number) ↔ AtDoor stack lies limit buffer number
-  unfolding endingNumber
-  door-given number least = (λ e. by-door number least (told number e), λ at. number-of [] (Refused number) (inl (refl, at)))
+  -- where a refused step ends it, by the refusal's number
+  refused-made : (frames : List Frame) (refusal : Refusal)
+      → WalkMade s stack lies registers limit buffer frames (EndsRefused (λ last. OnRefusal s stack lies last refusal) (inForce limit))
+      → Made frames (Refused (numberOfRefusal refusal))
+  refused-made frames refusal w =
+      let (few, far, on) = w .walk .ends in
+      record {
+        opened = w .opened;
+        obeys = w .obeys;
+        walk = record { follows = w .walk .follows; ends = (few, far, (refusal, refl, on)) };
+      }
 
-  pub section-given : (number : ℕ) → 1 ≤ number → number ≤ 15
-      → (endingNumber (whole .ending) ≡ number) ↔ (Opened stack lies limit buffer × ((index : ℕ) × (verdict s ≡ verdict.Refused number index)))
-  unfolding endingNumber
-  section-given number least most = (
-    λ e. by-section number least most (told number e),
-    λ h. number-of [] (Unsound number (h .1 .0)) (refl, h .0, h .1 .1),
-  )
+  trace-makes : (cause : TraceCause) → OnTrace s stack lies registers limit buffer cause → number ≡ numberOfTraceCause cause
+  unfolding endingNumber numberOfTraceCause numberOfStepCause
+  trace-makes window on = number-of [] (Shut 41) (refl, inl (refl, on))
+  trace-makes limitAbove (fits, above) = number-of [] (Shut 42) (refl, inr (inl (refl, fits, above)))
+  trace-makes tooFewWords (fits, allowed, few) = number-of [] (Shut 43) (refl, inr (inr (refl, fits, allowed, few)))
+  trace-makes (unsound rule) (opened, (index, given)) = number-of [] (Unsound (numberOfRule rule) index) (refl, opened, rule, refl, given)
+  trace-makes (refused refusal) (frames, w) = number-of frames (Refused (numberOfRefusal refusal)) (refused-made frames refusal w)
+  trace-makes outermost (frames, w) = number-of frames Outermost w
+  trace-makes full (frames, w) = number-of frames Full w
 
-  pub step-given : (number : ℕ) → 21 ≤ number → number ≤ 28
-      → (endingNumber (whole .ending) ≡ number) ↔ ((frames : List Frame) × Walked frames (Refused number))
-  unfolding endingNumber
-  step-given number least most = (
-    λ e. by-step number least most (told number e),
-    λ h. number-of (h .0) (Refused number) (inr (h .1)),
-  )
+  door-cause : (n : ℕ) → AtDoor stack lies limit buffer n → (cause : TraceCause) × OnTrace s stack lies registers limit buffer cause
+  door-cause n (inl (is, past)) = (window, past)
+  door-cause n (inr (inl (is, fits, above))) = (limitAbove, (fits, above))
+  door-cause n (inr (inr (is, fits, allowed, few))) = (tooFewWords, (fits, allowed, few))
 
-  pub outermost-given : (endingNumber (whole .ending) ≡ 30) ↔ ((frames : List Frame) × Walked frames Outermost)
-  unfolding endingNumber
-  outermost-given = (λ e. by-outermost 30 refl (told 30 e), λ h. number-of (h .0) Outermost (h .1))
+  case-cause : (frames : List Frame) (ending : Ending) → Case s stack lies registers limit buffer frames ending
+      → (cause : TraceCause) × OnTrace s stack lies registers limit buffer cause
+  case-cause frames Outermost w = (outermost, (frames, w))
+  case-cause frames Full w = (full, (frames, w))
+  case-cause frames (Refused n) w =
+      let (few, far, (refusal, is, on)) = w .walk .ends in
+      (refused refusal, (frames, record { opened = w .opened; obeys = w .obeys; walk = record { follows = w .walk .follows; ends = (few, far, on) } }))
+  case-cause frames (Shut n) (none, at) = door-cause n at
+  case-cause frames (Unsound n index) (none, opened, rule, is, given) = (unsound rule, (opened, (index, given)))
 
-  pub full-given : (endingNumber (whole .ending) ≡ 31) ↔ ((frames : List Frame) × Walked frames Full)
-  unfolding endingNumber
-  full-given = (λ e. by-full 31 refl (told 31 e), λ h. number-of (h .0) Full (h .1))
+  -- every trace has a cause
+  pub some-cause : (cause : TraceCause) × OnTrace s stack lies registers limit buffer cause
+  some-cause = case-cause (whole .frames) (whole .ending) trace-case
+
+  pub trace-given : (cause : TraceCause) → (number ≡ numberOfTraceCause cause) ↔ OnTrace s stack lies registers limit buffer cause
+  trace-given =
+      due-exactly-when numberOfTraceCause trace-distinct number (OnTrace s stack lies registers limit buffer)
+      (let (cause, on) = some-cause in inr (cause, trace-makes cause on, on))
+      trace-makes

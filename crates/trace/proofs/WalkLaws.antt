@@ -8,12 +8,13 @@ use native.Mathlib.Numerals.{add-one}
 use native.Mathlib.Omega.{arith}
 use lib.ListN.{length}
 use borrow.Author.Tests.{eq-eqb, ne-eqb}
-use Rattle.caller.specs.Caller.{stepNumber}
+use Rattle.caller.specs.Numbers.{stepNumber}
 use Rattle.caller.specs.declared.registers.Registers.{Registers}
 use Rattle.caller.specs.declared.registers.Step.{Step}
 use Rattle.caller.specs.declared.registers.Step.the-variants as stepped
-use Rattle.trace.specs.Inner.{put}
-use Rattle.trace.specs.Trace.{Walk, Trace, frameOf, wordsOf, ended, withFrame, unlessOutermost, onward, walkOf, allWords, tracedAs, traced}
+use Rattle.trace.specs.Frames.{TraceReply, frameOf, wordsOf, allWords, tracedAs}
+use Rattle.trace.specs.computed.Trace.{Walk, ended, withFrame, unlessOutermost, onward, walkOf, traced}
+use Rattle.trace.specs.inner.Writing.{put}
 use Rattle.trace.specs.declared.answer.Ending.{Ending}
 use Rattle.trace.specs.declared.answer.Ending.the-variants.{Outermost, Full, Refused}
 use Rattle.trace.specs.declared.answer.Frame.{Frame}
@@ -22,7 +23,7 @@ use Rattle.trace.proofs.BufferLaws.{put-first, put-none, put-more}
 -- ---- what is left of a trace
 
 -- the trace from here on: k frames are written, and `walk` is what is left
-unfoldable pub tracedFrom : ℕ → Walk → List ℕ → Trace
+unfoldable pub tracedFrom : ℕ → Walk → List ℕ → TraceReply
 tracedFrom k walk b =
     tracedAs (record { ending = walk .ending; frames = k + length (walk .frames) }) (put b (3 * k) (allWords (walk .frames)))
 

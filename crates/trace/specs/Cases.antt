@@ -5,19 +5,17 @@ use mathlib.Core.List.{List, []}
 use mathlib.Core.Logic.{_⊎_}
 use Prim.Native.Nat.{ℕ, suc, _*_, _≤_, _<_}
 use lib.ListN.{length, getD}
-use Rattle.section.specs.Meaning.{shapeOf}
-use Rattle.accept.specs.Checks.{verdict}
-use Rattle.accept.specs.declared.verdict.Verdict.the-variants as verdict
-use Rattle.lookup.specs.Finding.{lookIn}
-use Rattle.caller.specs.Caller.{stepOf, stepNumber}
-use Rattle.caller.specs.Cases.{Rule41}
+use Rattle.accept.specs.Given as accept
+use Rattle.accept.specs.Given.{Rule, numberOfRule, BrokenFirst}
+use Rattle.accept.specs.Rules.{Obeys}
+use Rattle.caller.specs.Cases.{Rule41, OnRefusal, CallerCase}
+use Rattle.caller.specs.Numbers.{Refusal, numberOfRefusal}
 use Rattle.caller.specs.declared.registers.Registers.{Registers}
-use Rattle.caller.specs.declared.registers.Step.{Step}
-use Rattle.caller.specs.declared.registers.Step.the-variants.{Caller}
 use Rattle.caller.specs.declared.registers.Where.{Where}
-use Rattle.trace.specs.Trace.{inForce, frameOf, withMark}
+use Rattle.trace.specs.Frames.{inForce, frameOf, withMark}
+use Rattle.trace.specs.Numbers.{TraceCause, window, limitAbove, tooFewWords, unsound, refused, outermost, full}
 use Rattle.trace.specs.declared.answer.Ending.{Ending}
-use Rattle.trace.specs.declared.answer.Ending.the-variants.{Outermost, Full, Refused, Unsound}
+use Rattle.trace.specs.declared.answer.Ending.the-variants.{Outermost, Full, Refused, Shut, Unsound}
 use Rattle.trace.specs.declared.answer.Frame.{Frame}
 
 -- ---- the door: "Before anything else, in order"
@@ -40,12 +38,12 @@ AtDoor stack lies limit buffer number =
     ⊎ ((number ≡ 43) × (¬ Rule41 stack lies) × (¬ LimitAbove limit) × TooFewWords limit buffer))
 
 -- none of the three
-pub record Opened (stack : List ℕ) (lies : Where) (limit : ℕ) (buffer : List ℕ) : Type 0 where
+pub record DoorOpen (stack : List ℕ) (lies : Where) (limit : ℕ) (buffer : List ℕ) : Type 0 where
   pub in-memory : ¬ Rule41 stack lies
   pub allowed : ¬ LimitAbove limit
   pub room : ¬ TooFewWords limit buffer
 
--- ---- the walk, by what one step answers
+-- ---- the walk, over any step: `Yields` says which caller one yields, `Refuses` with which number one is refused
 
 -- what stands past the last frame
 abbrev pub noFrame : Frame
@@ -53,10 +51,10 @@ noFrame = record { cfa = 0; ra = 0; fp = 0 }
 
 -- "writes each frame that a step yields": frame 0 is the step from the registers at the start, and "every frame comes from the
 -- last"; a frame that another follows is not the outermost
-pub record Follows (step : Registers → Step) (start : Registers) (frames : List Frame) : Type 0 where
+pub record Follows (Yields : Registers → Registers → Type 0) (start : Registers) (frames : List Frame) : Type 0 where
   pub at : ℕ → Registers
   pub starts : at 0 ≡ start
-  pub steps : (k : ℕ) → k < length frames → step (at k) ≡ Caller (at (suc k))
+  pub steps : (k : ℕ) → k < length frames → Yields (at k) (at (suc k))
   pub written : (k : ℕ) → k < length frames → getD frames k noFrame ≡ frameOf (at (suc k))
   pub goes-on : (k : ℕ) → suc k < length frames → ¬ (at (suc k) .pc ≡ 0)
 
@@ -72,45 +70,70 @@ EndsOutermost limit count last = (0 < count) × (count ≤ limit) × (last .pc �
 abbrev pub EndsFull : ℕ → ℕ → Registers → Type 0
 EndsFull limit count last = (count ≡ limit) × NotOutermost count last
 
--- a step that yields no caller, with its number
-pub record RefusedWith (answer : Step) (number : ℕ) : Type 0 where
-  pub no-caller : (caller : Registers) → ¬ (answer ≡ Caller caller)
-  pub number-is : stepNumber answer ≡ number
+-- "A refused step ends it"
+abbrev pub EndsRefused : (Registers → Type 0) → ℕ → ℕ → Registers → Type 0
+EndsRefused RefusedHere limit count last = (count < limit) × NotOutermost count last × RefusedHere last
 
--- "A refused step ends it with its own number, 21 to 28."
-abbrev pub EndsRefused : (Registers → Step) → ℕ → ℕ → Registers → ℕ → Type 0
-EndsRefused step limit count last number = (count < limit) × NotOutermost count last × RefusedWith (step last) number
+-- "with its own number"; what is refused before a walk is no walk's ending
+abbrev pub Ends : (Registers → ℕ → Type 0) → ℕ → ℕ → Registers → Ending → Type 0
+Ends Refuses limit count last Outermost = EndsOutermost limit count last
+Ends Refuses limit count last Full = EndsFull limit count last
+Ends Refuses limit count last (Refused number) = EndsRefused (λ registers. Refuses registers number) limit count last
+Ends Refuses limit count last (Shut number) = ⊥
+Ends Refuses limit count last (Unsound number index) = ⊥
 
--- a walk checks no section
-abbrev pub Ends : (Registers → Step) → ℕ → ℕ → Registers → Ending → Type 0
-Ends step limit count last Outermost = EndsOutermost limit count last
-Ends step limit count last Full = EndsFull limit count last
-Ends step limit count last (Refused number) = EndsRefused step limit count last number
-Ends step limit count last (Unsound number index) = ⊥
+-- these frames follow, and after so many of them, with the last registers, this holds
+pub record WalkTo (Yields : Registers → Registers → Type 0) (start : Registers) (frames : List Frame) (Holds : ℕ → Registers → Type 0) : Type 0 where
+  pub follows : Follows Yields start frames
+  pub ends : Holds (length frames) (follows .at (length frames))
 
-pub record WalkCase (step : Registers → Step) (limit : ℕ) (start : Registers) (frames : List Frame) (ending : Ending) : Type 0 where
-  pub follows : Follows step start frames
-  pub ends : Ends step limit (length frames) (follows .at (length frames)) ending
+abbrev pub WalkCase : (Registers → Registers → Type 0) → (Registers → ℕ → Type 0) → ℕ → Registers → List Frame → Ending → Type 0
+WalkCase Yields Refuses limit start frames ending = WalkTo Yields start frames (λ count last. Ends Refuses limit count last ending)
 
--- ---- every ending
+-- ---- the walk of a trace
 
--- one step in a section that was accepted
-abbrev pub stepAt : List ℕ → List ℕ → Where → Registers → Step
-stepAt s stack lies = stepOf (shapeOf s) (lookIn s (lies .section)) stack lies
+module _ (s stack : List ℕ) (lies : Where) where
+  -- a step is refused with its own number
+  abbrev pub StepRefuses : Registers → ℕ → Type 0
+  StepRefuses registers number = (refusal : Refusal) × (number ≡ numberOfRefusal refusal) × OnRefusal s stack lies registers refusal
 
--- nothing is refused before the walk, "The walk starts with the mark set", and these are its frames and its ending
-pub record Walks (s stack : List ℕ) (lies : Where) (registers : Registers) (limit : ℕ) (buffer : List ℕ) (frames : List Frame) (ending : Ending)
-    : Type 0 where
-  pub opened : Opened stack lies limit buffer
-  pub accepted : verdict s ≡ verdict.Accepted
-  pub walk : WalkCase (stepAt s stack lies) (inForce limit) (withMark registers) frames ending
+module _ (s stack : List ℕ) (lies : Where) (registers : Registers) (limit : ℕ) (buffer : List ℕ) where
+  -- nothing is refused before the walk, "The walk starts with the mark set", its frames are these, and it ends so
+  pub record WalkMade (frames : List Frame) (Holds : ℕ → Registers → Type 0) : Type 0 where
+    pub opened : DoorOpen stack lies limit buffer
+    pub obeys : Obeys s
+    pub walk : WalkTo (CallerCase s stack lies) (withMark registers) frames Holds
 
--- what holds where a trace has these frames and this ending; "These write nothing and answer 0 frames with their number, and for 1
--- to 15 the entry's index.": the door, and "then 1 to 15"
-abbrev pub Case : List ℕ → List ℕ → Where → Registers → ℕ → List ℕ → List Frame → Ending → Type 0
-Case s stack lies registers limit buffer frames Outermost = Walks s stack lies registers limit buffer frames Outermost
-Case s stack lies registers limit buffer frames Full = Walks s stack lies registers limit buffer frames Full
-Case s stack lies registers limit buffer frames (Refused number) =
-    ((frames ≡ []) × AtDoor stack lies limit buffer number) ⊎ Walks s stack lies registers limit buffer frames (Refused number)
-Case s stack lies registers limit buffer frames (Unsound number index) =
-    (frames ≡ []) × Opened stack lies limit buffer × (verdict s ≡ verdict.Refused number index)
+  -- ---- every number
+
+  -- what holds where a trace gives the number of this cause
+  abbrev pub OnTrace : TraceCause → Type 0
+  -- "41 stack address plus length above 2^64; 42 limit above 256; 43 fewer than 3 words per limit frame"
+  OnTrace window = Rule41 stack lies
+  OnTrace limitAbove = (¬ Rule41 stack lies) × LimitAbove limit
+  OnTrace tooFewWords = (¬ Rule41 stack lies) × (¬ LimitAbove limit) × TooFewWords limit buffer
+  -- "then 1 to 15"
+  OnTrace (unsound rule) = DoorOpen stack lies limit buffer × BrokenFirst s rule
+  -- "A refused step ends it with its own number, 21 to 28."
+  OnTrace (refused refusal) =
+      (frames : List Frame) × WalkMade frames (EndsRefused (λ last. OnRefusal s stack lies last refusal) (inForce limit))
+  -- "RA 0 ends it with 30 (outermost), also in the last allowed frame"
+  OnTrace outermost = (frames : List Frame) × WalkMade frames (EndsOutermost (inForce limit))
+  -- "otherwise a full limit ends it with 31."
+  OnTrace full = (frames : List Frame) × WalkMade frames (EndsFull (inForce limit))
+
+  -- ---- every ending
+
+  -- a walk with this ending
+  abbrev pub WalkEnded : List Frame → Ending → Type 0
+  WalkEnded frames ending = WalkMade frames (λ count last. Ends (StepRefuses s stack lies) (inForce limit) count last ending)
+
+  -- what holds where a trace has these frames and this ending; "These write nothing and answer 0 frames with their number, and for 1
+  -- to 15 the entry's index.": the door, and "then 1 to 15"
+  abbrev pub Case : List Frame → Ending → Type 0
+  Case frames Outermost = WalkEnded frames Outermost
+  Case frames Full = WalkEnded frames Full
+  Case frames (Refused number) = WalkEnded frames (Refused number)
+  Case frames (Shut number) = (frames ≡ []) × AtDoor stack lies limit buffer number
+  Case frames (Unsound number index) =
+      (frames ≡ []) × DoorOpen stack lies limit buffer × (rule : Rule) × (number ≡ numberOfRule rule) × accept.Given s rule index

@@ -1,4 +1,5 @@
 pub mod Cases
-pub mod Inner
-pub mod Opened
-pub mod Trace
+pub mod Frames
+pub mod Numbers
+pub mod computed
+pub mod inner

@@ -1,12 +1,13 @@
 // What a trace answers, and the frames that it writes.
 use caller::registers::Registers;
 use caller::registers::Step;
+use caller::registers::cfa_of_sp;
 ghost use mathlib.Core.Path.{_≡_};
 ghost use Prim.Native.Nat.{_+_, _≤_};
 ghost use lib.ListN.{length};
-ghost use Rattle.caller.specs.Caller.{stepNumber};
-ghost use Rattle.trace.specs.Inner.{put};
-ghost use Rattle.trace.specs.Trace.{frameOf, wordsOf};
+ghost use Rattle.caller.specs.Numbers.{stepNumber};
+ghost use Rattle.trace.specs.inner.Writing.{put};
+ghost use Rattle.trace.specs.Frames.{frameOf, wordsOf};
 
 // One frame: the three words that are written of it.
 pub struct Frame {
@@ -21,8 +22,10 @@ pub enum Ending {
     Outermost,
     // 31: the limit is full.
     Full,
-    // 21 to 28: the next step is refused; 41 to 43: the trace is.
+    // 21 to 28: the next step is refused.
     Refused(u64),
+    // 41 to 43: the trace is refused at its door.
+    Shut(u64),
     // 1 to 15: the section breaks a rule, at the entry with this index.
     Unsound { number: u64, index: u64 },
 }
@@ -38,7 +41,7 @@ pub fn frame_of(caller: Registers) -> Frame
     ensures { λ r. ⌜ r ≡ frameOf caller ⌝ }
 {
     Frame {
-        cfa: caller.sp,
+        cfa: cfa_of_sp(caller.sp),
         ra: caller.pc,
         fp: caller.fp,
     }

@@ -16,9 +16,10 @@ use section::header::layout_at;
 ghost use mathlib.Core.Path.{_≡_};
 ghost use Prim.Native.Nat.{_*_, _≤_};
 ghost use lib.ListN.{length};
-ghost use Rattle.lookup.specs.Inner.{AcceptedOf};
-ghost use Rattle.trace.specs.Inner.{withoutMark};
-ghost use Rattle.trace.specs.Trace.{inForce, withMark, doorFault, tracedAs, checkedWalk, traced, traceOf};
+ghost use Rattle.lookup.specs.inner.Requires.{AcceptedOf};
+ghost use Rattle.trace.specs.inner.Writing.{withoutMark};
+ghost use Rattle.trace.specs.Frames.{inForce, withMark, tracedAs};
+ghost use Rattle.trace.specs.computed.Trace.{doorFault, checkedWalk, traced, traceOf};
 
 // The limit that 0 stands for.
 const USUAL: u64 = 64;
@@ -130,7 +131,7 @@ pub fn trace(
 {
     match door_fault(stack, lies, limit, buffer.len() as u64) {
         Fault::Breaks(number) => Traced {
-            ending: Ending::Refused(number),
+            ending: Ending::Shut(number),
             frames: 0,
         },
         Fault::Sound => match check(section) {

@@ -2,7 +2,7 @@
 -- Assumes nothing.
 use borrow.Author.Needs.{needs}
 use mathlib.Core.Path.{ap}
-use Rattle.trace.specs.Trace.{tracedAs}
+use Rattle.trace.specs.Frames.{tracedAs}
 use Rattle.suntimpani.specs.Flat.{flatTrace}
 use Rattle.suntimpani.proofs.suntimpani_trace.Statement.{statement}
 use Rattle.suntimpani.proofs.suntimpani_trace.Tie as tie

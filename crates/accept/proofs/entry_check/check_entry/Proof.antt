@@ -4,7 +4,7 @@ use borrow.Author.Needs.{needs}
 use mathlib.Core.Path.{_≡_, sym, _∙_}
 use mathlib.Core.Bool.{false}
 use borrow.Author.Tests.{lt-ltb, le-ltb}
-use Rattle.accept.specs.Checks.{wrongEntryInfo, entryTests}
+use Rattle.accept.specs.computed.Checks.{wrongEntryInfo, entryTests}
 use Rattle.accept.proofs.RowLaws.{entry-info-decides}
 use Rattle.accept.proofs.TableLaws.{test-true, test-false, no-test, entry-refused, entry-by-rows}
 use Rattle.accept.proofs.entry_check.check_entry.Statement.{statement}

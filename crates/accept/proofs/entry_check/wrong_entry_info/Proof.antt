@@ -5,7 +5,7 @@ use mathlib.Core.Path.{_≡_, sym, _∙_}
 use mathlib.Core.Bool.{false}
 use borrow.Author.Tests.{lt-ltb, le-ltb}
 use Rattle.section.specs.Header.{bitOf}
-use Rattle.accept.specs.Checks.{wrongEntryInfo}
+use Rattle.accept.specs.computed.Checks.{wrongEntryInfo}
 use Rattle.accept.proofs.entry_check.wrong_entry_info.Statement.{statement}
 use Rattle.accept.proofs.entry_check.wrong_entry_info.Tie as tie
 

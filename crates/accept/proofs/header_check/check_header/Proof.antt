@@ -4,7 +4,7 @@ use borrow.Author.Needs.{needs}
 use mathlib.Core.Path.{sym, _∙_, ap}
 use mathlib.Core.Bool.{not}
 use borrow.Author.Tests.{lt-ltb, le-ltb}
-use Rattle.accept.specs.Checks.{headerTests, headerFault}
+use Rattle.accept.specs.computed.Checks.{headerTests, headerFault}
 use Rattle.accept.proofs.TableLaws.{test-true, test-false}
 use Rattle.accept.proofs.header_check.check_header.Statement.{statement}
 use Rattle.accept.proofs.header_check.check_header.Tie as tie

@@ -8,7 +8,7 @@ use Prim.Native.Nat.{ℕ}
 use denote.Ref.{now}
 use lib.ListN.{drop}
 use borrow.Author.Tests.{eq-eqb, ne-eqb, lt-ltb, le-ltb}
-use Rattle.accept.specs.Checks.{firstBad, headerTests}
+use Rattle.accept.specs.computed.Checks.{firstBad, headerTests}
 use Rattle.accept.specs.declared.verdict.Fault.{Fault}
 use Rattle.accept.proofs.TableLaws.{test-true, test-false, no-test}
 use Rattle.accept.proofs.header_check.check_parts.Statement.{statement}

@@ -4,7 +4,7 @@ use borrow.Author.Needs.{needs}
 use mathlib.Core.Path.{_≡_}
 use mathlib.Core.Bool.{true}
 use lib.Signed.{leZ}
-use Rattle.accept.specs.Checks.{sameOffset}
+use Rattle.accept.specs.computed.Checks.{sameOffset}
 use Rattle.accept.proofs.SignedTests.{not-above}
 use Rattle.accept.proofs.header_check.same_offset.Statement.{statement}
 use Rattle.accept.proofs.header_check.same_offset.Tie as tie

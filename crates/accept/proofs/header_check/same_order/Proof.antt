@@ -1,7 +1,7 @@
 -- `header_check::same_order` is the definition, case by case.
 -- Assumes nothing.
 use borrow.Author.Needs.{needs}
-use Rattle.accept.specs.Checks.{sameOrder}
+use Rattle.accept.specs.computed.Checks.{sameOrder}
 use Rattle.accept.proofs.header_check.same_order.Statement.{statement}
 use Rattle.accept.proofs.header_check.same_order.Tie as tie
 

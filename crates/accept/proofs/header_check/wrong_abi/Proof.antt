@@ -4,7 +4,7 @@ use borrow.Author.Needs.{needs}
 use mathlib.Core.Path.{_≡_, sym, _∙_}
 use borrow.Author.Tests.{le-leb, lt-leb}
 use Rattle.section.specs.Shape.{knownAbi, abiOf, shape}
-use Rattle.accept.specs.Checks.{sameOrder, wrongAbi}
+use Rattle.accept.specs.computed.Checks.{sameOrder, wrongAbi}
 use Rattle.accept.proofs.header_check.wrong_abi.Statement.{statement}
 use Rattle.accept.proofs.header_check.wrong_abi.Tie as tie
 

@@ -3,7 +3,7 @@
 use borrow.Author.Needs.{needs}
 use mathlib.Core.Path.{_≡_, sym, _∙_}
 use Rattle.section.specs.Shape.{abiOf, shape}
-use Rattle.accept.specs.Checks.{sameOffset, wrongFixed}
+use Rattle.accept.specs.computed.Checks.{sameOffset, wrongFixed}
 use Rattle.accept.proofs.header_check.wrong_fixed.Statement.{statement}
 use Rattle.accept.proofs.header_check.wrong_fixed.Tie as tie
 

@@ -2,7 +2,7 @@
 -- Assumes nothing.
 use borrow.Author.Needs.{needs}
 use borrow.Author.Tests.{eq-eqb, ne-eqb}
-use Rattle.accept.specs.Checks.{wrongSizes}
+use Rattle.accept.specs.computed.Checks.{wrongSizes}
 use Rattle.accept.proofs.header_check.wrong_sizes.Statement.{statement}
 use Rattle.accept.proofs.header_check.wrong_sizes.Tie as tie
 

@@ -10,7 +10,7 @@ use lib.ListN.{take, drop}
 use lib.Pow.{pow-mono}
 use borrow.Author.Tests.{lt-ltb, le-ltb}
 use Rattle.section.proofs.OffsetLaws.{row-below}
-use Rattle.accept.specs.Checks.{firstBad, rowTests}
+use Rattle.accept.specs.computed.Checks.{firstBad, rowTests}
 use Rattle.accept.specs.declared.verdict.Fault.{Fault}
 use Rattle.accept.proofs.TableLaws.{test-true, test-false, no-test}
 use Rattle.accept.proofs.row_check.check_row.Statement.{statement}

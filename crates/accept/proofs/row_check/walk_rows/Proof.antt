@@ -7,15 +7,15 @@ use Prim.Native.Nat.{_-_}
 use denote.Ref.{now}
 use lib.ListN.{take}
 use Rattle.section.specs.Row.{rowStart}
-use Rattle.accept.specs.Checks.{firstBad, rowTests}
+use Rattle.accept.specs.computed.Checks.{firstBad, rowTests}
 use Rattle.accept.specs.declared.verdict.Fault.the-variants.{Sound}
 use Rattle.accept.proofs.TableLaws.{row-refused}
-use Rattle.accept.proofs.WalkLaws.{Walked, row-low, row-fine, row-inside, walk-begins, walk-goes-on, walk-stops, walk-ends}
+use Rattle.accept.proofs.WalkLaws.{RowsPassed, row-low, row-fine, row-inside, walk-begins, walk-goes-on, walk-stops, walk-ends}
 use Rattle.accept.proofs.row_check.walk_rows.Statement.{statement}
 use Rattle.accept.proofs.row_check.walk_rows.Tie as tie
 
 abbrev Inv-loop : tie.InvT-loop
-Inv-loop area shape code first count order at₀ low₀ k₀ at low k = Walked area shape code first count at low k × (order ≡ shape .order)
+Inv-loop area shape code first count order at₀ low₀ k₀ at low k = RowsPassed area shape code first count at low k × (order ≡ shape .order)
 
 abbrev μ-loop : tie.MeasureT-loop
 μ-loop area shape code first count order at₀ low₀ k₀ at low k = count - k

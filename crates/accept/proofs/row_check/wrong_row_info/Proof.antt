@@ -5,20 +5,20 @@ use mathlib.Core.Path.{_≡_, sym, _∙_}
 use mathlib.Core.Bool.{false}
 use lib.Dec.{eqb}
 use borrow.Author.Tests.{eq-eqb, ne-eqb, lt-ltb, le-ltb}
-use Rattle.section.specs.Row.{countOf, sizeOf}
-use Rattle.accept.specs.Checks.{wrongRowInfo}
+use Rattle.section.specs.Row.{countOf, offsetSizeOf}
+use Rattle.accept.specs.computed.Checks.{wrongRowInfo}
 use Rattle.accept.proofs.row_check.wrong_row_info.Statement.{statement}
 use Rattle.accept.proofs.row_check.wrong_row_info.Tie as tie
 
-size : (c : tie.Else1) → eqb (sizeOf (c .before .before .args .info)) 3 ≡ false
-size c = ne-eqb _ 3 (λ e. c .if1 .left (c .before .size-of .ensures ∙ e))
+size : (c : tie.Else1) → eqb (offsetSizeOf (c .before .before .args .info)) 3 ≡ false
+size c = ne-eqb _ 3 (λ e. c .if1 .left (c .before .offset-size-of .ensures ∙ e))
 
 count : (c : tie.Else2) → eqb (countOf (c .before .before .before .before .args .info)) 0 ≡ false
 count c = ne-eqb _ 0 (λ e. c .if2 .left (c .before .count-of .ensures ∙ e))
 
 returns : tie.Need-returns
 unfolding wrongRowInfo
-returns c = rw (eq-eqb _ 3 (sym (c .before .size-of .ensures) ∙ c .if1 .taken))
+returns c = rw (eq-eqb _ 3 (sym (c .before .offset-size-of .ensures) ∙ c .if1 .taken))
 
 returns-2 : tie.Need-returns-2
 unfolding wrongRowInfo

@@ -2,7 +2,7 @@
 -- Assumes nothing.
 use borrow.Author.Needs.{needs}
 use mathlib.Core.Path.{sym, _∙_}
-use Rattle.accept.specs.Checks.{givenAt, thenTry, verdict}
+use Rattle.accept.specs.computed.Checks.{givenAt, thenTry, verdict}
 use Rattle.accept.proofs.section_check.check.Statement.{statement}
 use Rattle.accept.proofs.section_check.check.Tie as tie
 

@@ -6,11 +6,11 @@ use mathlib.Core.Path.{_≡_, sym, _∙_}
 use Prim.Native.Nat.{_+_, _-_, _*_, _≤_, _<_}
 use denote.Ref.{now}
 use lib.ListN.{length}
-use Rattle.numbers.specs.Held.{Held}
+use Rattle.numbers.specs.inner.Held.{Held}
 use Rattle.section.specs.Header.{layoutOf}
 use Rattle.section.specs.Meaning.{entryIn, functionStart}
-use Rattle.accept.specs.Checks.{sumFault, turnFault}
 use Rattle.accept.specs.Rules.{HeaderObeys, functionCount}
+use Rattle.accept.specs.computed.Checks.{sumFault, turnFault}
 use Rattle.accept.proofs.AcceptedLaws.{few-functions, area-inside, entry-inside}
 use Rattle.accept.proofs.Exactly.{header-exactly-when}
 use Rattle.accept.proofs.TurnLaws.{Turned, turns-begin, turn-is, turns-go-on, turns-stop, turns-end}

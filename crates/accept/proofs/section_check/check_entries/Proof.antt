@@ -5,8 +5,8 @@ use mathlib.Core.Path.{_∙_, ap}
 use Prim.Native.Nat.{_≤_}
 use denote.Ref.{now}
 use lib.ListN.{length, drop}
-use Rattle.section.proofs.AreaLaws.{to-the-end}
 use Rattle.section.specs.Meaning.{areaOf, shapeOf}
+use Rattle.section.proofs.AreaLaws.{to-the-end}
 use Rattle.accept.specs.Rules.{HeaderObeys}
 use Rattle.accept.proofs.AcceptedLaws.{area-inside}
 use Rattle.accept.proofs.Exactly.{header-exactly-when}

@@ -3,7 +3,7 @@
 use mathlib.Core.Path.{sym, _∙_, ap}
 use mathlib.Core.Bool.{not}
 use borrow.Author.Tests.{eq-eqb, ne-eqb}
-use Rattle.accept.specs.Checks.{givenAt}
+use Rattle.accept.specs.computed.Checks.{givenAt}
 use Rattle.accept.proofs.TableLaws.{test-true, test-false, no-test}
 use Rattle.accept.proofs.section_check.check_sum.Statement.{statement}
 use Rattle.accept.proofs.section_check.check_sum.Tie as tie

@@ -2,7 +2,7 @@
 -- Assumes nothing.
 use borrow.Author.Needs.{needs}
 use mathlib.Core.Path.{sym, _∙_}
-use Rattle.accept.specs.Checks.{andThen}
+use Rattle.accept.specs.computed.Checks.{andThen}
 use Rattle.accept.proofs.TableLaws.{test-true, test-false, no-test}
 use Rattle.accept.proofs.section_check.check_turn.Statement.{statement}
 use Rattle.accept.proofs.section_check.check_turn.Tie as tie

@@ -1,13 +1,13 @@
 -- `place::is_lost`: RA in its register is lost where there is no mark.
 -- Assumes nothing.
 use borrow.Author.Needs.{needs}
-use Rattle.caller.specs.Caller.{marked, isLost}
+use Rattle.caller.specs.computed.Caller.{hasMark, isLost}
 use Rattle.caller.proofs.RegisterLaws.{twice-not}
 use Rattle.caller.proofs.place.is_lost.Statement.{statement}
 use Rattle.caller.proofs.place.is_lost.Tie as tie
 
 returns : tie.Need-returns
-unfolding isLost marked
+unfolding isLost hasMark
 returns c = rw (c .before .enum-told .given .1) (twice-not _)
 
 returns-2 : tie.Need-returns-2

@@ -1,7 +1,7 @@
 -- `place::spot_at` keeps an address as a place, and what lies outside memory as beyond it.
 -- Assumes nothing.
 use borrow.Author.Needs.{needs}
-use Rattle.caller.specs.Caller.{spotAt}
+use Rattle.caller.specs.computed.Caller.{spotAt}
 use Rattle.caller.proofs.place.spot_at.Statement.{statement}
 use Rattle.caller.proofs.place.spot_at.Tie as tie
 

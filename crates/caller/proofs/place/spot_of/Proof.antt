@@ -2,7 +2,7 @@
 -- Assumes nothing.
 use borrow.Author.Needs.{needs}
 use mathlib.Core.Path.{_∙_, ap}
-use Rattle.caller.specs.Caller.{spotAt, spotOf}
+use Rattle.caller.specs.computed.Caller.{spotAt, spotOf}
 use Rattle.caller.proofs.place.spot_of.Statement.{statement}
 use Rattle.caller.proofs.place.spot_of.Tie as tie
 

@@ -1,7 +1,7 @@
 -- `place::value_at` takes the register or the word, by where the place is.
 -- Assumes nothing.
 use borrow.Author.Needs.{needs}
-use Rattle.caller.specs.Caller.{valueOf}
+use Rattle.caller.specs.computed.Caller.{valueOf}
 use Rattle.caller.proofs.place.value_at.Statement.{statement}
 use Rattle.caller.proofs.place.value_at.Tie as tie
 

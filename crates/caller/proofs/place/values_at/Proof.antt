@@ -2,7 +2,7 @@
 -- Assumes nothing.
 use borrow.Author.Needs.{needs}
 use mathlib.Core.Path.{sym, _∙_}
-use Rattle.caller.specs.Caller.{bothOf, valuesOf}
+use Rattle.caller.specs.computed.Caller.{bothOf, valuesOf}
 use Rattle.caller.proofs.place.values_at.Statement.{statement}
 use Rattle.caller.proofs.place.values_at.Tie as tie
 

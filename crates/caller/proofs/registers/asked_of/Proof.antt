@@ -1,7 +1,7 @@
 -- `registers::asked_of`: the PC itself is looked up.
 -- Assumes nothing.
 use mathlib.Core.Path.{refl}
-use Rattle.caller.specs.Caller.{askedOf}
+use Rattle.caller.specs.Frame.{askedOf}
 use Rattle.caller.proofs.registers.asked_of.Statement.{statement}
 use Rattle.caller.proofs.registers.asked_of.Tie as tie
 

@@ -1,7 +1,7 @@
 -- `registers::base_value` reads the register that the base names.
 -- Assumes nothing.
 use borrow.Author.Needs.{needs}
-use Rattle.caller.specs.Caller.{baseValue}
+use Rattle.caller.specs.Frame.{baseValue}
 use Rattle.caller.proofs.registers.base_value.Statement.{statement}
 use Rattle.caller.proofs.registers.base_value.Tie as tie
 

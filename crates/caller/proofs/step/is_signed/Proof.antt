@@ -1,6 +1,6 @@
 -- `step::is_signed` asks for the bit where the machine signs.
 -- Assumes nothing.
-use Rattle.caller.specs.Caller.{isSigned}
+use Rattle.caller.specs.computed.Caller.{isSigned}
 use Rattle.caller.proofs.step.is_signed.Statement.{statement}
 use Rattle.caller.proofs.step.is_signed.Tie as tie
 

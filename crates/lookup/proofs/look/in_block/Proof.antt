@@ -3,7 +3,7 @@
 use borrow.Author.Needs.{needs}
 use mathlib.Core.Path.{sym, _∙_}
 use Rattle.section.specs.Meaning.{blockOf}
-use Rattle.lookup.specs.Rows.{inBlock}
+use Rattle.lookup.specs.computed.Rows.{inBlock}
 use Rattle.lookup.proofs.look.in_block.Statement.{statement}
 use Rattle.lookup.proofs.look.in_block.Tie as tie
 

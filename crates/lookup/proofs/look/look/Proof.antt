@@ -2,11 +2,11 @@
 -- Assumes nothing.
 use mathlib.Core.Path.{_≡_, _∙_, ap}
 use denote.Ref.{now}
-use Rattle.numbers.specs.Held.{distance}
+use Rattle.numbers.specs.Start.{distance}
 use Rattle.section.specs.Meaning.{functionsOf}
-use Rattle.lookup.specs.Answers.{outcome, answer, answerOf}
-use Rattle.lookup.specs.Covering.{covering, coverOf}
-use Rattle.lookup.specs.Search.{searchOf}
+use Rattle.lookup.specs.computed.Answers.{outcome, answer, answerOf}
+use Rattle.lookup.specs.computed.Covering.{covering, coverOf}
+use Rattle.lookup.specs.inner.Search.{searchOf}
 use Rattle.lookup.proofs.LookLaws.{accepted-header}
 use Rattle.lookup.proofs.SearchLaws.{search-finds-covering}
 use Rattle.lookup.proofs.look.look.Statement.{statement}

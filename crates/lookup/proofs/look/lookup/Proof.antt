@@ -3,7 +3,7 @@
 use borrow.Author.Needs.{needs}
 use mathlib.Core.Path.{sym, _∙_}
 use Rattle.accept.proofs.AcceptedLaws.{accepted-laws}
-use Rattle.lookup.specs.Answers.{afterCheck, lookupOf}
+use Rattle.lookup.specs.computed.Answers.{answerAfter, lookupOf}
 use Rattle.lookup.proofs.look.lookup.Statement.{statement}
 use Rattle.lookup.proofs.look.lookup.Tie as tie
 
@@ -16,11 +16,11 @@ look-requires c κs =
     record { accepted = sym (told .before .before .check .ensures) ∙ told .enum-told .given .1; layout-is = c .layout-at .ensures }
 
 returns : tie.Need-returns
-unfolding afterCheck lookupOf
+unfolding answerAfter lookupOf
 returns c = rw (sym (c .before .before .before .check .ensures) ∙ c .before .number .given .1)
 
 returns-2 : tie.Need-returns-2
-unfolding afterCheck lookupOf
+unfolding answerAfter lookupOf
 returns-2 c =
     let told = c .before .before in
     rw (sym (told .before .before .check .ensures) ∙ told .enum-told .given .1) (c .look .ensures)

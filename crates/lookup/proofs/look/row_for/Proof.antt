@@ -6,12 +6,13 @@ use mathlib.Core.Path.{_≡_, _∙_, ap}
 use Prim.Native.Nat.{_<_, _≤_, _-_, _^_}
 use denote.Ref.{now}
 use lib.ListN.{length, take, drop}
-use Rattle.numbers.specs.Held.{distance, Held, Near}
+use Rattle.numbers.specs.Start.{distance}
+use Rattle.numbers.specs.inner.Held.{Held, Near}
 use Rattle.section.specs.Meaning.{areaOf, shapeOf, entryIn, functionStart, functionIn}
 use Rattle.section.proofs.AreaLaws.{to-the-end}
 use Rattle.accept.proofs.AcceptedLaws.{area-inside}
 use Rattle.accept.proofs.RowLaws.{entry-sound}
-use Rattle.lookup.specs.Rows.{rowFor}
+use Rattle.lookup.specs.computed.Rows.{rowFor}
 use Rattle.lookup.proofs.LookLaws.{accepted-header, past-start, offset-held, fault-free}
 use Rattle.lookup.proofs.TableLaws.{header-obeys, start-held}
 use Rattle.lookup.proofs.look.row_for.Statement.{statement}

@@ -3,11 +3,11 @@
 use borrow.Author.Needs.{needs}
 use mathlib.Core.Path.{sym, _∙_}
 use denote.Ref.{now}
-use Rattle.numbers.specs.Held.{distance}
+use Rattle.numbers.specs.Start.{distance}
 use Rattle.section.proofs.ListedLaws.{functions-get}
-use Rattle.lookup.specs.Answers.{withCover}
-use Rattle.lookup.specs.Halving.{noFunction}
-use Rattle.lookup.specs.Inner.{RowAsked}
+use Rattle.lookup.specs.Halving.{emptyFunction}
+use Rattle.lookup.specs.computed.Answers.{withCover}
+use Rattle.lookup.specs.inner.Requires.{RowAsked}
 use Rattle.lookup.proofs.LookLaws.{row-asked}
 use Rattle.lookup.proofs.look.with_cover.Statement.{statement}
 use Rattle.lookup.proofs.look.with_cover.Tie as tie
@@ -32,7 +32,7 @@ returns-2 c =
     let one = c .before .before in
     let start = one .before .before .before .before in
     let listed = rw (start .pre .0 .layout-is) at (asked one .inside) in
-    rw (one .before .cover .given .1) (rw (functions-get _ _ noFunction listed, c .with-row .ensures, c .before .row-for .ensures))
+    rw (one .before .cover .given .1) (rw (functions-get _ _ emptyFunction listed, c .with-row .ensures, c .before .row-for .ensures))
 
 returns-3 : tie.Need-returns-3
 unfolding withCover

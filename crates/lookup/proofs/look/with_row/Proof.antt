@@ -1,7 +1,7 @@
 -- `look::with_row` names the function beside its row, or alone.
 -- Assumes nothing.
 use borrow.Author.Needs.{needs}
-use Rattle.lookup.specs.Answers.{withRow}
+use Rattle.lookup.specs.computed.Answers.{withRow}
 use Rattle.lookup.proofs.look.with_row.Statement.{statement}
 use Rattle.lookup.proofs.look.with_row.Tie as tie
 

@@ -5,7 +5,8 @@ use native.Mathlib.Numerals.{add-one}
 use native.Mathlib.Omega.{arith}
 use Prim.Native.Nat.{_-_}
 use denote.Ref.{now}
-use Rattle.section.specs.Row.{rowStart, Readable}
+use Rattle.section.specs.Row.{rowStart}
+use Rattle.section.specs.inner.Reading.{Readable}
 use Rattle.lookup.proofs.PassedLaws.{Passed, passing-begins, passes-on, passing-stops, passing-ends}
 use Rattle.lookup.proofs.rows.pass_rows.Statement.{statement}
 use Rattle.lookup.proofs.rows.pass_rows.Tie as tie

@@ -3,7 +3,7 @@
 use borrow.Author.Needs.{needs}
 use native.Mathlib.Omega.{arith}
 use Rattle.section.specs.Meaning.{functionIn}
-use Rattle.lookup.specs.Covering.{covers}
+use Rattle.lookup.specs.computed.Covering.{covers}
 use Rattle.lookup.proofs.search.covers_at.Statement.{statement}
 use Rattle.lookup.proofs.search.covers_at.Tie as tie
 

@@ -2,11 +2,12 @@
 -- Assumes nothing.
 use borrow.Author.Needs.{needs}
 use denote.Ref.{now}
-use Rattle.numbers.specs.Held.{distance, Near}
+use Rattle.numbers.specs.Start.{distance}
+use Rattle.numbers.specs.inner.Held.{Near}
 use Rattle.section.proofs.ListedLaws.{functions-length}
 use Rattle.lookup.specs.Halving.{compared}
-use Rattle.lookup.specs.Inner.{TableOf}
-use Rattle.lookup.specs.Search.{coverBy, searchOf}
+use Rattle.lookup.specs.inner.Requires.{TableOf}
+use Rattle.lookup.specs.inner.Search.{coverBy, searchOf}
 use Rattle.lookup.proofs.TableLaws.{header-obeys}
 use Rattle.lookup.proofs.search.find.Statement.{statement}
 use Rattle.lookup.proofs.search.find.Tie as tie

@@ -6,10 +6,10 @@ use native.Mathlib.Omega.{arith}
 use mathlib.Core.Path.{_≡_, refl, sym, _∙_}
 use Prim.Native.Nat.{_-_, _≤_}
 use lib.IntN.{ℤ}
-use Rattle.numbers.specs.Held.{Near}
+use Rattle.numbers.specs.inner.Held.{Near}
 use Rattle.section.specs.Meaning.{functionIn}
-use Rattle.lookup.specs.Covering.{covers}
-use Rattle.lookup.specs.Search.{firstWhere}
+use Rattle.lookup.specs.computed.Covering.{covers}
+use Rattle.lookup.specs.inner.Search.{firstWhere}
 use Rattle.lookup.proofs.ScanLaws.{first-here, first-on, first-end}
 use Rattle.lookup.proofs.search.next_covering.Statement.{statement}
 use Rattle.lookup.proofs.search.next_covering.Tie as tie

@@ -1,7 +1,7 @@
 -- `search::position_at` is the place itself under the flag.
 -- Assumes nothing.
 use native.Mathlib.Omega.{arith}
-use Rattle.lookup.specs.Search.{positionAt}
+use Rattle.section.specs.Entry.{positionAt}
 use Rattle.lookup.proofs.search.position_at.Statement.{statement}
 use Rattle.lookup.proofs.search.position_at.Tie as tie
 

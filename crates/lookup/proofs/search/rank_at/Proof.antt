@@ -4,7 +4,7 @@ use borrow.Author.Needs.{needs}
 use native.Mathlib.Omega.{arith}
 use mathlib.Core.Path.{_≡_}
 use Prim.Native.Nat.{_+_, _<_, _^_}
-use Rattle.numbers.specs.Held.{rank}
+use Rattle.numbers.specs.inner.Held.{rank}
 use Rattle.numbers.proofs.HeldLaws.{held-rank}
 use Rattle.lookup.proofs.TableLaws.{entry-room, entry-place, field-held}
 use Rattle.lookup.proofs.search.rank_at.Statement.{statement}

@@ -7,11 +7,11 @@ use mathlib.Core.Path.{_≡_, sym, _∙_}
 use Prim.Native.Nat.{suc, _-_, _<_}
 use denote.Ref.{now}
 use lib.IntN.{ℤ}
-use Rattle.numbers.specs.Held.{Near}
+use Rattle.numbers.specs.inner.Held.{Near}
 use Rattle.section.specs.Header.{layoutOf}
 use Rattle.section.specs.Meaning.{functionIn}
-use Rattle.lookup.specs.Covering.{covers}
-use Rattle.lookup.specs.Search.{firstWhere}
+use Rattle.lookup.specs.computed.Covering.{covers}
+use Rattle.lookup.specs.inner.Search.{firstWhere}
 use Rattle.lookup.proofs.ScanLaws.{scan-none, scan-one, scan-two}
 use Rattle.lookup.proofs.search.scan.Statement.{statement}
 use Rattle.lookup.proofs.search.scan.Tie as tie

@@ -1,7 +1,7 @@
 -- `field::digit_at` is right by the cases of the order.
 -- Assumes nothing.
 use borrow.Author.Needs.{needs}
-use Rattle.numbers.specs.Field.{digitPlace}
+use Rattle.numbers.specs.inner.Digits.{digitPlace}
 use Rattle.numbers.proofs.field.digit_at.Statement.{statement}
 use Rattle.numbers.proofs.field.digit_at.Tie as tie
 

@@ -1,7 +1,7 @@
 -- `held::rank_of` changes the sign bit by a remainder.
 -- Assumes nothing.
 use borrow.Author.Needs.{needs}
-use Rattle.numbers.specs.Held.{rank}
+use Rattle.numbers.specs.inner.Held.{rank}
 use Rattle.numbers.proofs.held.rank_of.Statement.{statement}
 use Rattle.numbers.proofs.held.rank_of.Tie as tie
 

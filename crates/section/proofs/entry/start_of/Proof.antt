@@ -7,7 +7,7 @@ use Rattle.section.proofs.entry.start_of.Tie as tie
 
 returns : tie.Need-returns
 unfolding startOf
-returns c = rw (c .before .position-of .ensures) at (c .held-start .ensures)
+returns c = rw (c .before .position-at .ensures) at (c .held-start .ensures)
 
 pub start-of-spec : {M : Type 1} → statement M
 start-of-spec =

@@ -11,13 +11,13 @@ use Rattle.section.proofs.row.offsets_length.Tie as tie
 
 product : (c : tie.After-width-of) → c .before .before .count-of .result * c .width-of .result ≡ offsetsLength (c .before .before .before .args .info)
 unfolding offsetsLength
-product c = rw (c .before .before .count-of .ensures, c .width-of .ensures, c .before .size-of .ensures)
+product c = rw (c .before .before .count-of .ensures, c .width-of .ensures, c .before .offset-size-of .ensures)
 
 small : (c : tie.After-width-of) → c .before .before .count-of .result * c .width-of .result ≤ 120
 small c = rw (product c) (offsets-below _)
 
 width-of-requires : tie.Need-width-of-requires
-width-of-requires c κs = rw (c .size-of .ensures) (size-below _)
+width-of-requires c κs = rw (c .offset-size-of .ensures) (size-below _)
 
 mul-result : tie.Need-mul-result
 mul-result c = omega (arith, small c)

@@ -17,13 +17,13 @@ announced c = rw (c .before .count-of .ensures) at (c .if1 .taken)
 offset-in-requires : tie.Need-offset-in-requires
 offset-in-requires c κs =
     let start = c .before .before .before .before in
-    rw (c .size-of .ensures) (start .pre .size, omega (arith, start .pre .whole, offset-within _ _ (announced (c .before))))
+    rw (c .offset-size-of .ensures) (start .pre .size, omega (arith, start .pre .whole, offset-within _ _ (announced (c .before))))
 
 returns : tie.Need-returns
 unfolding placeIn
 returns c =
     rw (lt-ltb _ _ (announced (c .before .before)), placeIn)
-    (ap AtOffset (rw (c .before .size-of .ensures) at (c .offset-in .ensures)))
+    (ap AtOffset (rw (c .before .offset-size-of .ensures) at (c .offset-in .ensures)))
 
 returns-2 : tie.Need-returns-2
 unfolding placeIn

@@ -11,7 +11,7 @@ offset-in-requires : tie.Need-offset-in-requires
 offset-in-requires c κs =
     let info = c .before .before .before .before in
     let row = offsets-of (info .before .before .pre) in
-    rw (c .size-of .ensures, info .info-at .ensures, c .before .before .before .width-of .ensures)
+    rw (c .offset-size-of .ensures, info .info-at .ensures, c .before .before .before .width-of .ensures)
     (row .size, omega (arith, row .whole, offset-within (infoOf _ _ _) 0 (row .some)))
 
 ra-in-requires : tie.Need-ra-in-requires
@@ -41,7 +41,7 @@ returns c =
       ra .ra-in .ensures,
       fp .place-in .ensures,
       c .is-signed .ensures,
-      size .size-of .ensures,
+      size .offset-size-of .ensures,
       width .width-of .ensures,
       width .before .info-at .ensures,
     )

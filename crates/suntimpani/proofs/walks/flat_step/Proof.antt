@@ -1,7 +1,7 @@
 -- `flat::flat_step` copies what each case carries.
 -- Assumes nothing.
 use borrow.Author.Needs.{needs}
-use Rattle.caller.specs.Caller.{stepNumber, stepIndexes, stepRegisters}
+use Rattle.caller.specs.Numbers.{stepNumber, stepIndexes, stepRegisters}
 use Rattle.suntimpani.specs.Flat.{flatStep}
 use Rattle.suntimpani.proofs.walks.flat_step.Statement.{statement}
 use Rattle.suntimpani.proofs.walks.flat_step.Tie as tie

@@ -1,7 +1,7 @@
 -- `flat::flat_traced` gives each ending its number.
 -- Assumes nothing.
 use borrow.Author.Needs.{needs}
-use Rattle.trace.specs.Trace.{endingNumber, endingIndexes}
+use Rattle.trace.specs.Numbers.{endingNumber, endingIndexes}
 use Rattle.suntimpani.specs.Flat.{flatTraced}
 use Rattle.suntimpani.proofs.walks.flat_traced.Statement.{statement}
 use Rattle.suntimpani.proofs.walks.flat_traced.Tie as tie
@@ -22,5 +22,9 @@ returns-4 : tie.Need-returns-4
 unfolding endingNumber endingIndexes flatTraced
 returns-4 c = rw (c .before .ending2 .given .1)
 
+returns-5 : tie.Need-returns-5
+unfolding endingNumber endingIndexes flatTraced
+returns-5 c = rw (c .before .ending3 .given .1)
+
 pub flat-traced-spec : {M : Type 1} → statement M
-flat-traced-spec = tie.close (tie.spec (λ c. search needs) (λ c. search needs) (λ c. search needs) (λ c. search needs) returns returns-2 returns-3 returns-4)
+flat-traced-spec = tie.close (tie.spec (λ c. search needs) (λ c. search needs) (λ c. search needs) (λ c. search needs) (λ c. search needs) returns returns-2 returns-3 returns-4 returns-5)

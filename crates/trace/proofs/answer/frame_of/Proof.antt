@@ -1,13 +1,13 @@
--- `answer::frame_of`: CFA is the caller's SP, and RA its PC.
+-- `answer::frame_of`: CFA is the one that gave the caller its SP, and RA is its PC.
 -- Assumes nothing.
-use mathlib.Core.Path.{refl}
-use Rattle.trace.specs.Trace.{frameOf}
+use borrow.Author.Needs.{needs}
+use Rattle.trace.specs.Frames.{frameOf}
 use Rattle.trace.proofs.answer.frame_of.Statement.{statement}
 use Rattle.trace.proofs.answer.frame_of.Tie as tie
 
 returns : tie.Need-returns
 unfolding frameOf
-returns c = refl
+returns c = rw (c .cfa-of-sp .ensures)
 
 pub frame-of-spec : {M : Type 1} → statement M
-frame-of-spec = tie.close (tie.spec returns)
+frame-of-spec = tie.close (tie.spec (λ c κs. search needs) returns)

@@ -1,7 +1,7 @@
 -- `answer::number_of` reads the number of each case.
 -- Assumes nothing.
 use borrow.Author.Needs.{needs}
-use Rattle.caller.specs.Caller.{stepNumber}
+use Rattle.caller.specs.Numbers.{stepNumber}
 use Rattle.trace.proofs.answer.number_of.Statement.{statement}
 use Rattle.trace.proofs.answer.number_of.Tie as tie
 

@@ -6,7 +6,7 @@ use native.Mathlib.Omega.{arith}
 use mathlib.Core.Bool.{true}
 use mathlib.Core.Path.{_≡_, sym, _∙_}
 use denote.Ref.{now}
-use Rattle.numbers.specs.Address.{windowFits}
+use Rattle.numbers.specs.computed.Address.{windowFits}
 use Rattle.trace.proofs.DoorLaws.{in-force-small, door-window, door-limit, door-words, door-open}
 use Rattle.trace.proofs.walk.door_fault.Statement.{statement}
 use Rattle.trace.proofs.walk.door_fault.Tie as tie

@@ -1,7 +1,7 @@
 -- `walk::in_force`: 0 stands for 64.
 -- Assumes nothing.
 use borrow.Author.Tests.{eq-eqb, ne-eqb}
-use Rattle.trace.specs.Trace.{inForce}
+use Rattle.trace.specs.Frames.{inForce}
 use Rattle.trace.proofs.walk.in_force.Statement.{statement}
 use Rattle.trace.proofs.walk.in_force.Tie as tie
 

@@ -8,11 +8,12 @@ use mathlib.Core.List.{[], _∷_}
 use lib.ListN.{length}
 use types.Run.{miss}
 use Rattle.section.specs.Meaning.{shapeOf}
-use Rattle.lookup.specs.Finding.{lookIn}
-use Rattle.caller.specs.Caller.{stepOf}
-use Rattle.caller.proofs.Exactly.{checked-unmarked}
-use Rattle.trace.specs.Inner.{withoutMark, put}
-use Rattle.trace.specs.Trace.{frameOf, wordsOf, checkedWalk, tracedAs}
+use Rattle.lookup.specs.computed.Answers.{lookIn}
+use Rattle.caller.specs.computed.Caller.{stepOf}
+use Rattle.caller.proofs.NumberLaws.{caller-unmarked}
+use Rattle.trace.specs.Frames.{frameOf, wordsOf, tracedAs}
+use Rattle.trace.specs.computed.Trace.{checkedWalk}
+use Rattle.trace.specs.inner.Writing.{withoutMark, put}
 use Rattle.trace.specs.declared.answer.Ending.the-variants.{Outermost, Refused}
 use Rattle.trace.proofs.GoingLaws.{unmarked-same, Going, going-begins, going-full, going-refused, going-fits, going-same, going-outermost, going-on}
 use Rattle.trace.proofs.walk.walk.Statement.{statement}
@@ -110,7 +111,7 @@ next c =
     let caller = told .before .step .given .0 .0 in
     let is : c .without-mark .result ≡ withoutMark caller = c .without-mark .ensures in
     let yields = sym (told .before .before .before .step-checked .ensures) ∙ told .before .step .given .1 in
-    is ∙ unmarked-same caller (checked-unmarked _ _ _ _ _ caller yields)
+    is ∙ unmarked-same caller (caller-unmarked _ _ _ _ _ caller yields)
 
 loop-again : tie.Need-loop-again Inv-loop μ-loop
 loop-again c =

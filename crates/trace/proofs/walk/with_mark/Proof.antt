@@ -1,7 +1,7 @@
 -- `walk::with_mark` sets the mark alone.
 -- Assumes nothing.
 use mathlib.Core.Path.{refl}
-use Rattle.trace.specs.Trace.{withMark}
+use Rattle.trace.specs.Frames.{withMark}
 use Rattle.trace.proofs.walk.with_mark.Statement.{statement}
 use Rattle.trace.proofs.walk.with_mark.Tie as tie
 

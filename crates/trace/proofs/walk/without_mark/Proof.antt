@@ -1,7 +1,7 @@
 -- `walk::without_mark` clears the mark alone.
 -- Assumes nothing.
 use mathlib.Core.Path.{refl}
-use Rattle.trace.specs.Inner.{withoutMark}
+use Rattle.trace.specs.inner.Writing.{withoutMark}
 use Rattle.trace.proofs.walk.without_mark.Statement.{statement}
 use Rattle.trace.proofs.walk.without_mark.Tie as tie
 

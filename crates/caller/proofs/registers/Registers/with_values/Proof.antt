@@ -1,7 +1,7 @@
 -- `with_values` makes the caller of both words.
 -- Assumes nothing.
 use borrow.Author.Needs.{needs}
-use Rattle.caller.specs.Caller.{withValues}
+use Rattle.caller.specs.computed.Caller.{withValues}
 use Rattle.caller.proofs.registers.Registers.with_values.Statement.{statement}
 use Rattle.caller.proofs.registers.Registers.with_values.Tie as tie
 

@@ -1,0 +1,4 @@
+-- What the code computes, and its contracts cite. That it says what the files above this folder say is proved: no demand needs
+-- these to be believed.
+pub mod Address
+pub mod Number

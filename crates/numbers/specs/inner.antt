@@ -1,0 +1,5 @@
+-- What only the code and its proofs speak of.
+pub mod Digits
+pub mod Held
+pub mod Opened
+pub mod Shift

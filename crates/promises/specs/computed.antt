@@ -1,0 +1,2 @@
+-- What the code computes, and its contracts cite: no demand needs it to be believed.
+pub mod Ours
