@@ -27,9 +27,7 @@ impl Folder {
 
     /// The program's standard output and standard error.
     fn run(&self, arguments: &[&str]) -> (String, String) {
-        let program = in_repository("target/bin/sframe");
-        assert!(program.is_file(), "target/bin/sframe is not there: run 'rt check sframe'");
-        let run = Command::new(program).args(arguments).current_dir(&self.0).output().expect("the program starts");
+        let run = program().args(arguments).current_dir(&self.0).output().expect("the program starts");
         assert!(run.status.code().is_some(), "{arguments:?}: {}", run.status);
         (text(run.stdout), text(run.stderr))
     }
@@ -48,6 +46,18 @@ impl Drop for Folder {
         // What cannot be removed is left to the system's own care of the folder.
         let _ = fs::remove_dir_all(&self.0);
     }
+}
+
+/// The program, which is compiled for x86-64; elsewhere it is started under an emulator.
+fn program() -> Command {
+    let program = in_repository("target/bin/sframe");
+    assert!(program.is_file(), "target/bin/sframe is not there: run 'rt check sframe'");
+    if cfg!(target_arch = "x86_64") {
+        return Command::new(program);
+    }
+    let mut launcher = Command::new(in_repository("tests/run_program"));
+    launcher.arg("sframe");
+    launcher
 }
 
 fn text(bytes: Vec<u8>) -> String {
