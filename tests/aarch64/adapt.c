@@ -1,0 +1,52 @@
+/* So that the tests run on an AArch64 machine: the header's four functions, before those of the proved module, which
+ * tests/aarch64/archive compiles with `proved_` before their names.
+ *
+ * The module was made for x86-64: a struct by value is handed to it as a pointer to one, and a result of more than two
+ * words is written where its first pointer says. The functions here have the header's forms as AArch64 has them. Their
+ * struct parameters are their own copies, as by value means, whatever the module does with them. Above each stands the
+ * form in the module, which the script holds it to. */
+#include "suntimpani.h"
+
+_Static_assert(sizeof(suntimpani_where) == 16, "byval 16");
+_Static_assert(sizeof(suntimpani_registers) == 40, "byval 40");
+
+/* Of the module: { i64, i64 } suntimpani_check(ptr, i64) */
+suntimpani_verdict proved_suntimpani_check(const uint8_t *section, size_t length);
+
+suntimpani_verdict suntimpani_check(const uint8_t *section, size_t length) {
+    return proved_suntimpani_check(section, length);
+}
+
+/* Of the module: ptr suntimpani_lookup(ptr, ptr, i64, i64, i64) */
+void *proved_suntimpani_lookup(suntimpani_answer *answer, const uint8_t *section, size_t length, uint64_t address,
+                               uint64_t pc);
+
+suntimpani_answer suntimpani_lookup(const uint8_t *section, size_t length, uint64_t address, uint64_t pc) {
+    suntimpani_answer answer;
+    proved_suntimpani_lookup(&answer, section, length, address, pc);
+    return answer;
+}
+
+/* Of the module: ptr suntimpani_caller(ptr, ptr, i64, ptr, i64, byval 16, byval 40) */
+void *proved_suntimpani_caller(suntimpani_step *step, const uint8_t *section, size_t length, const uint8_t *stack,
+                               size_t stack_length, suntimpani_where *where, suntimpani_registers *registers);
+
+suntimpani_step suntimpani_caller(const uint8_t *section, size_t length, const uint8_t *stack, size_t stack_length,
+                                  suntimpani_where where, suntimpani_registers registers) {
+    suntimpani_step step;
+    proved_suntimpani_caller(&step, section, length, stack, stack_length, &where, &registers);
+    return step;
+}
+
+/* Of the module: ptr suntimpani_trace(ptr, ptr, i64, ptr, i64, byval 16, byval 40, i64, ptr, i64) */
+void *proved_suntimpani_trace(suntimpani_traced *traced, const uint8_t *section, size_t length, const uint8_t *stack,
+                              size_t stack_length, suntimpani_where *where, suntimpani_registers *registers,
+                              uint64_t limit, uint64_t *buffer, size_t words);
+
+suntimpani_traced suntimpani_trace(const uint8_t *section, size_t length, const uint8_t *stack, size_t stack_length,
+                                   suntimpani_where where, suntimpani_registers registers, uint64_t limit,
+                                   uint64_t *buffer, size_t words) {
+    suntimpani_traced traced;
+    proved_suntimpani_trace(&traced, section, length, stack, stack_length, &where, &registers, limit, buffer, words);
+    return traced;
+}
