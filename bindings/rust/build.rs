@@ -17,7 +17,10 @@ fn main() {
     println!("cargo:rustc-link-lib=static=suntimpani");
 }
 
+// By the machine that is compiled for: the archive for AArch64 is one for the tests, so that they run there.
 fn usual_folder() -> PathBuf {
     let package = env::var_os("CARGO_MANIFEST_DIR").expect("cargo names the package's folder");
-    PathBuf::from(package).join("../../target/staticlib")
+    let machine = env::var("CARGO_CFG_TARGET_ARCH").expect("cargo names the machine");
+    let folder = if machine == "aarch64" { "../../target/aarch64" } else { "../../target/staticlib" };
+    PathBuf::from(package).join(folder)
 }

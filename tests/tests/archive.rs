@@ -8,8 +8,11 @@ use std::path::PathBuf;
 use std::process::Command;
 use suntimpani_tests::in_repository;
 
+/// The folder of the archive that is linked, as build.rs has it.
+const USUAL_FOLDER: &str = if cfg!(target_arch = "aarch64") { "target/aarch64" } else { "target/staticlib" };
+
 fn archive() -> PathBuf {
-    let folder = env::var_os("SUNTIMPANI_LIB_DIR").map_or_else(|| in_repository("target/staticlib"), PathBuf::from);
+    let folder = env::var_os("SUNTIMPANI_LIB_DIR").map_or_else(|| in_repository(USUAL_FOLDER), PathBuf::from);
     folder.join("libsuntimpani.a")
 }
 
