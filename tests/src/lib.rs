@@ -26,7 +26,7 @@ pub mod measured;
 pub mod obvious;
 pub mod pack;
 #[cfg(feature = "library")]
-#[cfg(target_arch = "x86_64")]
+#[cfg(any(target_arch = "x86_64", target_arch = "aarch64"))]
 pub mod painted;
 pub mod reader;
 pub mod stream;

@@ -1,5 +1,5 @@
 //! How deep a run goes into its stack: it runs on memory of its own, painted before, and what is no longer painted was
-//! written to. The stack's end is followed by a forbidden page. For x86-64, as the library's archive is.
+//! written to. The stack's end is followed by a forbidden page. For x86-64 and AArch64, as the archives are.
 #![allow(unsafe_code)]
 
 use crate::guarded::{Guarded, Side};
@@ -34,24 +34,43 @@ extern "C" fn enter(run: &mut &mut dyn FnMut()) {
     run();
 }
 
-// The stack pointer is changed for one call alone, which nothing unwinds through: a panic in it ends the program.
 fn run_on(stack: &mut [u64], mut run: &mut dyn FnMut()) {
     let top = stack.as_mut_ptr_range().end;
     assert!((top as usize).is_multiple_of(16), "a stack begins at a multiple of 16");
-    // SAFETY: the stack is writable memory lent for the call, and the call keeps r12, which has the old stack pointer.
-    unsafe {
-        std::arch::asm!(
-            "mov r12, rsp",
-            "mov rsp, {top}",
-            "call {enter}",
-            "mov rsp, r12",
-            top = in(reg) top,
-            enter = sym enter,
-            in("rdi") &mut run,
-            out("r12") _,
-            clobber_abi("C"),
-        );
-    }
+    // SAFETY: the stack is writable memory lent for the call.
+    unsafe { enter_on(top, &mut run) };
+}
+
+// The stack pointer is changed for one call alone, which nothing unwinds through: a panic in it ends the program. The
+// call keeps r12, or x20, which has the old stack pointer.
+#[cfg(target_arch = "x86_64")]
+unsafe fn enter_on(top: *mut u64, run: &mut &mut dyn FnMut()) {
+    std::arch::asm!(
+        "mov r12, rsp",
+        "mov rsp, {top}",
+        "call {enter}",
+        "mov rsp, r12",
+        top = in(reg) top,
+        enter = sym enter,
+        in("rdi") run,
+        out("r12") _,
+        clobber_abi("C"),
+    );
+}
+
+#[cfg(target_arch = "aarch64")]
+unsafe fn enter_on(top: *mut u64, run: &mut &mut dyn FnMut()) {
+    std::arch::asm!(
+        "mov x20, sp",
+        "mov sp, {top}",
+        "bl {enter}",
+        "mov sp, x20",
+        top = in(reg) top,
+        enter = sym enter,
+        in("x0") run,
+        out("x20") _,
+        clobber_abi("C"),
+    );
 }
 
 #[cfg(test)]
