@@ -1,5 +1,5 @@
 /* A crash recorder: a program that faults three calls deep and, in the handler of the signal, walks its own stack with
- * Suntimpani and holds every frame against what it noted on the way down. x86-64 Linux.
+ * Suntimpani and holds every frame against what it noted on the way down. x86-64 and AArch64 Linux.
  *
  *     recorder                 prints the trace and says whether each frame is as expected
  *     recorder --record DIR    does the same and writes the crash to files of that folder, which must exist
@@ -22,10 +22,18 @@ static int recording;
 
 /* Noted right before a call: SP is then the CFA of the function that is called, and FP its caller's. The argument goes
  * through it, into the register where the call takes it, so that the compiler has nothing to compute in between, for
- * which it might use FP. */
+ * which it might use FP. On AArch64 any register will do: a function that calls has FP for nothing else there. */
+#if defined(__aarch64__)
+#define NOTE_CALL(called, argument)                                                                                    \
+    __asm__ volatile("mov x16, sp\n\tstr x16, %0\n\tstr x29, %1"                                                       \
+                     : "=m"(seen.expected[called].cfa), "=m"(seen.expected[called].fp), "+r"(argument)                 \
+                     :                                                                                                 \
+                     : "x16")
+#else
 #define NOTE_CALL(called, argument)                                                                                    \
     __asm__ volatile("movq %%rsp, %0\n\tmovq %%rbp, %1"                                                                \
                      : "=m"(seen.expected[called].cfa), "=m"(seen.expected[called].fp), "+D"(argument))
+#endif
 
 /* Noted by a function that was called. */
 #define NOTE_RETURN(self) (seen.expected[self].ra = (uint64_t)(uintptr_t)__builtin_return_address(0))
@@ -138,17 +146,29 @@ static int record(void) {
     return written;
 }
 
+#if defined(__aarch64__)
+static void take_registers(const mcontext_t *at_fault) {
+    seen.registers.pc = at_fault->pc;
+    seen.registers.sp = at_fault->sp;
+    seen.registers.fp = at_fault->regs[29];
+    seen.registers.lr = at_fault->regs[30];
+}
+#else
+static void take_registers(const mcontext_t *at_fault) {
+    seen.registers.pc = (uint64_t)at_fault->gregs[REG_RIP];
+    seen.registers.sp = (uint64_t)at_fault->gregs[REG_RSP];
+    seen.registers.fp = (uint64_t)at_fault->gregs[REG_RBP];
+}
+#endif
+
 static void on_fault(int signal_number, siginfo_t *info, void *context) {
     static uint64_t words[3 * LIMIT];
-    const greg_t *at_fault = ((const ucontext_t *)context)->uc_mcontext.gregs;
     suntimpani_where where;
     suntimpani_traced traced;
     int recorded;
     (void)signal_number;
     (void)info;
-    seen.registers.pc = (uint64_t)at_fault[REG_RIP];
-    seen.registers.sp = (uint64_t)at_fault[REG_RSP];
-    seen.registers.fp = (uint64_t)at_fault[REG_RBP];
+    take_registers(&((const ucontext_t *)context)->uc_mcontext);
     seen.registers.first = 1;
     /* The stack window ends where main's caller begins: nothing above belongs to a frame of this program. */
     seen.stack.bytes = (const uint8_t *)seen.registers.sp;
@@ -177,6 +197,13 @@ static int prepare_handler(void) {
     return sigaltstack(&on_own_stack, NULL) == 0 && sigaction(SIGSEGV, &action, NULL) == 0;
 }
 
+/* Whether __builtin_dwarf_cfa() is where main's frame begins: by clang for AArch64 it is the frame pointer. */
+#if defined(__aarch64__) && defined(__clang__)
+enum { FRAME_KNOWN = 0 };
+#else
+enum { FRAME_KNOWN = 1 };
+#endif
+
 static const char *why_not_ready(int count, char **words) {
     recording = count == 3 && strcmp(words[1], "--record") == 0;
     if (count != 1 && !recording) {
@@ -188,6 +215,9 @@ static const char *why_not_ready(int count, char **words) {
     seen.section = own_section();
     if (seen.section.length == 0) {
         return "this program has no .sframe section";
+    }
+    if (!FRAME_KNOWN) {
+        return "for AArch64 clang does not tell where main's frame begins: build it by gcc";
     }
     return prepare_handler() ? NULL : "the handler cannot be installed";
 }
