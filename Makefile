@@ -6,6 +6,13 @@ DESTDIR =
 # The one place of the version is the Rust package, since cargo takes it from there.
 VERSION = $(shell sed -n 's/^version = "\(.*\)"/\1/p' bindings/rust/Cargo.toml)
 
+# The toolchain compiles for x86-64. On an AArch64 machine the tests link an archive of their own, of the same module.
+ifeq ($(shell uname -m),aarch64)
+for_tests = tests/aarch64/archive $(1)
+else
+for_tests = :
+endif
+
 # Generated sections of a soak; the seed to repeat one, and the turn to begin at.
 N = 1000000
 SEED =
@@ -33,6 +40,7 @@ test:
 
 lib:
 	@said=$$(rt staticlib suntimpani 2>&1) || { echo "$$said"; exit 1; }
+	@$(call for_tests,suntimpani)
 
 install: lib
 	install -d "$(DESTDIR)$(PREFIX)/lib/pkgconfig" "$(DESTDIR)$(PREFIX)/include"
@@ -46,6 +54,7 @@ soak: lib
 
 bench: lib
 	@said=$$(rt staticlib measure 2>&1) || { echo "$$said"; exit 1; }
+	@$(call for_tests,measure)
 	cd tests && cargo run --quiet --release --offline --locked --features library,measure --bin bench
 
 cases:
