@@ -11,12 +11,13 @@ pub const MOST_SECTION_BYTES: usize = 6_291_456;
 pub const MOST_STACK_BYTES: usize = 1_048_576;
 
 /// Each command, and what it takes.
-pub const COMMANDS: [(&str, &str); 5] = [
+pub const COMMANDS: [(&str, &str); 6] = [
     ("check", "FILE"),
     ("lookup", "FILE ADDRESS PC"),
     ("caller", "FILE ADDRESS STACK STACK_ADDRESS PC SP FP LR FIRST"),
     ("trace", "FILE ADDRESS STACK STACK_ADDRESS PC SP FP LR LIMIT"),
     ("help", ""),
+    ("version", ""),
 ];
 
 const WORDS: [(u64, &str); 28] = [
@@ -181,7 +182,8 @@ pub mod wrong {
     /// Where there is no such command.
     pub fn count(command: &str) -> String {
         let known = COMMANDS.iter().find(|(name, _)| *name == command);
-        format!("sframe: '{command}' takes {}\n", known.expect("a command").1)
+        let takes = known.map(|(_, takes)| if takes.is_empty() { "no arguments" } else { takes });
+        format!("sframe: '{command}' takes {}\n", takes.expect("a command"))
     }
 
     pub fn number(name: &str, given: &str) -> String {

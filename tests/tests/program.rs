@@ -297,11 +297,11 @@ fn a_wrong_command_is_told() {
 #[test]
 fn a_wrong_count_is_told() {
     let folder = Folder::of("counts");
-    for (command, takes) in COMMANDS.into_iter().filter(|(_, takes)| !takes.is_empty()) {
-        let count = takes.split(' ').count();
+    for (command, takes) in COMMANDS {
+        let count = takes.split_whitespace().count();
         // Nothing of them is looked at: neither is a file, nor a number.
         let refuses = |count| folder.refuses(&[&[command][..], &vec!["?"; count]].concat(), &wrong::count(command));
-        [0, count - 1, count + 1, 20].into_iter().for_each(refuses);
+        [0, count.saturating_sub(1), count + 1, 20].into_iter().filter(|other| *other != count).for_each(refuses);
     }
 }
 

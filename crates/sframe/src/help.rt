@@ -12,6 +12,8 @@ fn show_forms() {
     say(b"    every caller in turn, at most LIMIT of them\n");
     say(b"sframe help\n");
     say(b"    this text\n");
+    say(b"sframe version\n");
+    say(b"    the version of this program\n");
 }
 
 fn show_arguments() {

@@ -6,6 +6,7 @@ mod refusals;
 mod say;
 mod show;
 mod show_walks;
+mod version;
 mod walks;
 
 use crate::arguments::Loaded;
@@ -15,6 +16,7 @@ use crate::help::show_help;
 use crate::say::complain;
 use crate::show::show_answer;
 use crate::show::show_verdict;
+use crate::version::show_version;
 use crate::walks::Walk;
 use crate::walks::answer_walk;
 use hexadecimal::Parsed;
@@ -32,6 +34,7 @@ enum Question {
 
 enum Command {
     Help,
+    Version,
     Asks(Question),
     Unknown,
 }
@@ -50,6 +53,17 @@ fn is_same(a: &[u8], b: &[u8]) -> bool {
     true
 }
 
+// What is asked of the program itself.
+fn own_command_of(word: &[u8]) -> Command {
+    if is_same(word, b"help") {
+        return Command::Help;
+    }
+    if is_same(word, b"version") {
+        return Command::Version;
+    }
+    Command::Unknown
+}
+
 fn command_of(word: &[u8]) -> Command {
     if is_same(word, b"check") {
         return Command::Asks(Question::Check);
@@ -63,10 +77,7 @@ fn command_of(word: &[u8]) -> Command {
     if is_same(word, b"trace") {
         return Command::Asks(Question::Walks(Walk::Trace));
     }
-    if is_same(word, b"help") {
-        return Command::Help;
-    }
-    Command::Unknown
+    own_command_of(word)
 }
 
 fn complain_of_word(word: &[u8]) {
@@ -140,6 +151,11 @@ fn run(word: &[u8], given: usize) {
         Command::Help => {
             if are_all(given, 0, b"sframe: 'help' takes no arguments\n") {
                 show_help();
+            }
+        }
+        Command::Version => {
+            if are_all(given, 0, b"sframe: 'version' takes no arguments\n") {
+                show_version();
             }
         }
         Command::Asks(question) => {
