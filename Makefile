@@ -1,10 +1,12 @@
 # The commands of the repository; `make` alone lists them.
-.PHONY: help run test lib install soak bench cases reader fmt
+.PHONY: help run test lib install pc soak bench cases reader fmt
 
 PREFIX = /usr/local
 DESTDIR =
 # The one place of the version is the Rust package, since cargo takes it from there.
 VERSION = $(shell sed -n 's/^version = "\(.*\)"/\1/p' bindings/rust/Cargo.toml)
+# Prints the pkg-config file.
+PC = sed -e 's|@PREFIX@|$(PREFIX)|' -e 's|@VERSION@|$(VERSION)|' include/suntimpani.pc.in
 
 # The toolchain compiles for x86-64. On an AArch64 machine the tests link an archive of their own, of the same module.
 ifeq ($(shell uname -m),aarch64)
@@ -23,6 +25,7 @@ help:
 	@echo "make test     the gate: proofs, must-fail edits, programs, and the library against the reader (bash .ci/run)"
 	@echo "make lib      prove the library and build target/staticlib/libsuntimpani.a"
 	@echo "make install  put the archive, its header and a pkg-config file below PREFIX ($(PREFIX))"
+	@echo "make pc       print that pkg-config file"
 	@echo "make soak     compare the library with the reader for longer: N=$(N) sections, SEED=.. to repeat a run"
 	@echo "make bench    one table: the library's time against the reader's, and its use of the stack"
 	@echo "make cases    make the stored cases and their expected output anew, by the independent reader"
@@ -46,8 +49,10 @@ install: lib
 	install -d "$(DESTDIR)$(PREFIX)/lib/pkgconfig" "$(DESTDIR)$(PREFIX)/include"
 	install -m 644 target/staticlib/libsuntimpani.a "$(DESTDIR)$(PREFIX)/lib"
 	install -m 644 include/suntimpani.h "$(DESTDIR)$(PREFIX)/include"
-	sed -e 's|@PREFIX@|$(PREFIX)|' -e 's|@VERSION@|$(VERSION)|' include/suntimpani.pc.in \
-	    >"$(DESTDIR)$(PREFIX)/lib/pkgconfig/suntimpani.pc"
+	$(PC) >"$(DESTDIR)$(PREFIX)/lib/pkgconfig/suntimpani.pc"
+
+pc:
+	@$(PC)
 
 soak: lib
 	cd tests && cargo run --quiet --release --offline --locked --features library --bin soak -- $(N) $(SEED) $(FROM)

@@ -101,6 +101,9 @@
 #include <stddef.h>
 #include <stdint.h>
 
+/* The version of this header and of the archive beside it. */
+#define SUNTIMPANI_VERSION "0.1.1"
+
 #ifdef __cplusplus
 extern "C" {
 #endif

@@ -64,6 +64,12 @@ static void compare_traced(const char *what, suntimpani_traced got, suntimpani_t
         compare(#type, "the size of " #field, sizeof(((type *)0)->field), 8);                                          \
     } while (0)
 
+/* The version is a text, and not an empty one. */
+static void version(void) {
+    static const char text[] = SUNTIMPANI_VERSION;
+    compare("SUNTIMPANI_VERSION", "whether it has a sign", strlen(text) > 0, 1);
+}
+
 static void layout_of_answers(void) {
     compare("suntimpani_answer", "its size", sizeof(suntimpani_answer), 13 * 8);
     PLACE(suntimpani_answer, number, 0);
@@ -250,6 +256,7 @@ static void null_pointers(void) {
 }
 
 int main(void) {
+    version();
     layout_of_answers();
     layout_of_the_others();
     k1_to_k3();

@@ -1,5 +1,5 @@
 //! The program `sframe`, run as people run it: what it prints, to the last byte, is what the independent reader says in
-//! the program's words.
+//! the program's words; and its version is that of the package, the header, the pkg-config file and CHANGELOG.md.
 
 use std::collections::BTreeSet;
 use std::fs;
@@ -381,4 +381,63 @@ fn help_lists_every_command() {
         assert!(out.lines().any(|line| line.trim() == form.trim() || line.contains(&form)), "{form}\n{out}");
     }
     assert!(out.contains("hexadecimal") && out.lines().count() >= 2 * COMMANDS.len(), "{out}");
+}
+
+// ---- the version
+
+/// What a text says behind `begin` in the first of its lines that begins so, up to `end`.
+fn said_in(text: &str, begin: &str, end: char) -> Option<String> {
+    let rest = text.lines().find_map(|line| line.strip_prefix(begin))?;
+    rest.split(end).next().map(str::to_string)
+}
+
+/// The pkg-config file that `make install` writes.
+fn pkg_config_file() -> String {
+    let mut make = Command::new("make");
+    // What a make above this test was told is not for this one.
+    make.args(["-s", "--no-print-directory", "pc"]).current_dir(in_repository("")).env_remove("MAKEFLAGS");
+    let made = make.output().expect("make starts");
+    assert!(made.status.success(), "make pc: {}", text(made.stderr));
+    text(made.stdout)
+}
+
+/// The version as each place says it where a person may look; the first is where it is decided.
+fn versions(printed: &str) -> [(&'static str, Option<String>); 5] {
+    let read = |path: &str| fs::read_to_string(in_repository(path)).unwrap_or_else(|error| panic!("{path}: {error}"));
+    [
+        ("bindings/rust/Cargo.toml", said_in(&read("bindings/rust/Cargo.toml"), "version = \"", '"')),
+        ("include/suntimpani.h", said_in(&read("include/suntimpani.h"), "#define SUNTIMPANI_VERSION \"", '"')),
+        ("the newest heading of CHANGELOG.md", said_in(&read("CHANGELOG.md"), "## ", ',')),
+        ("suntimpani.pc", said_in(&pkg_config_file(), "Version: ", '\n')),
+        ("sframe version", said_in(printed, "sframe ", '\n')),
+    ]
+}
+
+/// The places that do not say what the first one says, or say nothing.
+fn disagreeing<'a>(versions: &[(&'a str, Option<String>)]) -> Vec<&'a str> {
+    let differs = |said: &Option<String>| said.is_none() || *said != versions[0].1;
+    versions.iter().filter(|(_, said)| differs(said)).map(|(place, _)| *place).collect()
+}
+
+#[test]
+fn every_place_says_the_same_version() {
+    let folder = Folder::of("version");
+    let (printed, _) = folder.run(&["version"]);
+    let versions = versions(&printed);
+    assert_eq!(disagreeing(&versions), [""; 0], "{versions:?}");
+    let version = versions[0].1.as_deref().expect("a version");
+    folder.answers(&["version"], &format!("sframe {version}\n"));
+    let parts: Vec<Result<u32, _>> = version.split('.').map(str::parse).collect();
+    assert!(parts.len() == 3 && parts.iter().all(Result::is_ok), "{version} is not three numbers");
+}
+
+#[test]
+fn a_version_that_differs_is_found() {
+    let newest = |text| said_in(text, "## ", ',');
+    assert_eq!(newest("# Changes\n\n## 1.2.3, today\n\n## 1.2.2, before\n").as_deref(), Some("1.2.3"));
+    assert_eq!(newest("# Changes\n"), None);
+    let said = |version: &str| Some(version.to_string());
+    assert_eq!(disagreeing(&[("a", said("1.2.3")), ("b", said("1.2.3"))]), [""; 0]);
+    assert_eq!(disagreeing(&[("a", said("1.2.3")), ("b", said("1.2.4")), ("c", None)]), ["b", "c"]);
+    assert_eq!(disagreeing(&[("a", None), ("b", said("1.2.3"))]), ["a", "b"]);
 }

@@ -38,6 +38,9 @@ pub use look::{lookup, Answer, Base, Outcome, Place, Row};
 pub use refusal::{Refusal, Rule, Unsound};
 pub use walk::{frames, trace, Ending, Frame, Registers, Step, Traced, Where};
 
+/// The version of the library: the header for C has the same as `SUNTIMPANI_VERSION`.
+pub const VERSION: &str = env!("CARGO_PKG_VERSION");
+
 /// What [`check`] answers.
 #[derive(Clone, Copy, Debug, PartialEq, Eq)]
 pub enum Verdict {
