@@ -2,7 +2,6 @@ pub mod AcceptDetermined
 pub mod Broken
 pub mod CallerDetermined
 pub mod CauseLaws
-pub mod CodeMeets
 pub mod ContractLaws
 pub mod Demand1Met
 pub mod Demand2Met
@@ -16,6 +15,8 @@ pub mod NoChoice
 pub mod NumbersDetermined
 pub mod OrderLaws
 pub mod RequiresMet
+pub mod ReturnLaws
+pub mod Returned
 pub mod SameCalls
 pub mod SameListings
 pub mod SectionDetermined

@@ -8,6 +8,7 @@ pub mod Exported
 pub mod Listings
 pub mod Promises
 pub mod Refusals
+pub mod Returns
 pub mod SameFunctions
 pub mod Table
 pub mod Wrong
