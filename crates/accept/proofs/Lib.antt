@@ -1,6 +1,7 @@
 pub mod AcceptedLaws
 pub mod CauseLaws
 pub mod Decides
+pub mod Edges
 pub mod Exactly
 mod Examples
 pub mod FaultLaws

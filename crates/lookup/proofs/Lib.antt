@@ -14,4 +14,5 @@ pub mod OffsetWithinLaws
 pub mod PassedLaws
 pub mod ScanLaws
 pub mod SearchLaws
+pub mod SizeZero
 pub mod TableLaws
