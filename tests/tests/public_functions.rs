@@ -203,7 +203,7 @@ impl Proofs {
 /// Whether a file says that a function determines its reply, and cites that function's own contract for it.
 fn says_determined(proofs: &Proofs, function: &Function) -> bool {
     let Function { name, cited, .. } = function;
-    let statement = format!("Determined {name}-kinds.ps {name}-kinds.r {name}-reads.Post");
+    let statement = format!("Determined {name}-kinds.ps {name}-kinds.r {name}-reads.Learnt");
     proofs.stated(&format!("{name}-determined")) == Some(&statement)
         && proofs.uses("use Rattle.promises.specs.Determined.{Determined}")
         && proofs.uses(&format!("use {cited}.Kinds as {name}-kinds"))
@@ -429,7 +429,7 @@ use Rattle.low.proofs.field.get.Reads as get-reads
 
 pub get-determined :
     Determined get-kinds.ps get-kinds.r
-      get-reads.Post
+      get-reads.Learnt
 get-determined κs a = refl
 
 pub get-met : (κs : Lfts 0) → get-reads.Asked κs (7, tt)
@@ -473,7 +473,7 @@ fn a_statement_about_another_contract_is_found() {
     assert_eq!(faults_after("field.get.Kinds", "field.put.Kinds"), [UNDETERMINED]);
     assert_eq!(faults_after("field.get.Reads", "field.put.Reads"), [UNDETERMINED, UNMET]);
     assert_eq!(faults_after("low.proofs", "high.proofs"), [UNDETERMINED, UNMET]);
-    assert_eq!(faults_after("get-reads.Post", "put-reads.Post"), [UNDETERMINED]);
+    assert_eq!(faults_after("get-reads.Learnt", "put-reads.Learnt"), [UNDETERMINED]);
     assert_eq!(faults_after("get-reads.Asked", "put-reads.Asked"), [UNMET]);
 }
 
@@ -481,7 +481,7 @@ fn a_statement_about_another_contract_is_found() {
 fn another_statement_under_the_name_is_found() {
     assert_eq!(faults_after("Determined get-kinds.ps", "Undetermined get-kinds.ps"), [UNDETERMINED]);
     assert_eq!(faults_after("    Determined get-kinds.ps", "    ⊥ → Determined get-kinds.ps"), [UNDETERMINED]);
-    assert_eq!(faults_after("get-reads.Post\n", "get-reads.Post → ⊥\n"), [UNDETERMINED]);
+    assert_eq!(faults_after("get-reads.Learnt\n", "get-reads.Learnt → ⊥\n"), [UNDETERMINED]);
     let with_hypothesis = "module _ (never : ⊥) where\n  pub get-determined";
     assert_eq!(faults_after("pub get-determined", with_hypothesis), [UNDETERMINED]);
     assert_eq!(faults_after("·specs.specs.Determined.{", "·specs.specs.Other.{"), [UNDETERMINED]);

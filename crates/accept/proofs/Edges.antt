@@ -8,9 +8,9 @@ use Prim.Native.Nat.{ℕ, _<_}
 use native.Mathlib.Omega.{arith}
 use lib.ListN.{length, set}
 use Rattle.section.specs.SectionS.{sectionS}
-use Rattle.accept.specs.Checks.{verdict}
+use Rattle.accept.specs.computed.Checks.{verdict}
 use Rattle.accept.specs.Given.{long, numberOfRule}
-use Rattle.accept.specs.Opened.{acceptOpened}
+use Rattle.accept.specs.inner.Opened.{acceptOpened}
 use Rattle.accept.specs.declared.verdict.Verdict.the-variants.{Refused}
 use Rattle.accept.proofs.Exactly.{given-exactly-when}
 

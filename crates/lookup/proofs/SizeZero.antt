@@ -8,7 +8,7 @@ use lib.IntN.{ℤ, pos, _+ℤ_, +ℤ-idr}
 use lib.Signed.{_≤ℤ_, _<ℤ_, clashℤ}
 use Rattle.section.specs.Meaning.{Function, entryIn}
 use Rattle.lookup.specs.Cases.{Covers}
-use Rattle.lookup.specs.Covering.{covers}
+use Rattle.lookup.specs.computed.Covering.{covers}
 use Rattle.lookup.proofs.CoveringLaws.{is-false, covers-shows}
 
 -- nothing is at or above a start and below the same start

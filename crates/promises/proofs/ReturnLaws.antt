@@ -52,9 +52,9 @@ told σ P Q φ says s = sat-fact 𝓤 H 𝓜 σ (P ∗ Q) φ (via 𝓤 (P ∗ Q)
 
 -- ---- a contract with no `requires`, and the run of a routine that meets it
 
-module _ {n : ℕ} (ps : List (PK n)) (r : RK n) (Post : Out n ps r) (routine : Routine) where
+module _ {n : ℕ} (ps : List (PK n)) (r : RK n) (Learnt : Out n ps r) (routine : Routine) where
   abbrev clauses : Clauses 𝓤 (endedOf n ps r)
-  clauses κs a = record { ghost = Unit {0}; requires = λ _. emp 𝓤; ensures = λ _ z e. fact 𝓤 (Post κs a z e) }
+  clauses κs a = record { ghost = Unit {0}; requires = λ _. emp 𝓤; ensures = λ _ z e. fact 𝓤 (Learnt κs a z e) }
 
   abbrev pub Met : Type 1
   Met = Meets 𝓤 H A (sigOf n ps r) (𝓡 .run routine) (closing 𝓤 H A (endedOf n ps r) clauses)
@@ -70,7 +70,7 @@ module _ {n : ℕ} (ps : List (PK n)) (r : RK n) (Post : Out n ps r) (routine : 
     Last w = sem 𝓤 H A (lasts (endedOf n ps r) κs a w)
 
     abbrev Allowed : resT r κs .Denot → Lasts (endedOf n ps r) κs a → Assertion
-    Allowed z w = fact 𝓤 (Allows ps r Post κs a z w)
+    Allowed z w = fact 𝓤 (Allows ps r Learnt κs a z w)
 
     -- what the contract leaves: a reply, last values, and what it says of them
     abbrev Said : resT r κs .Denot → Assertion
@@ -79,7 +79,7 @@ module _ {n : ℕ} (ps : List (PK n)) (r : RK n) (Post : Out n ps r) (routine : 
     abbrev Replied : Val → resT r κs .Denot → Assertion
     Replied v z = (Held ∗ Own v z) ∗ Said z
 
-    met-ends : Met → (σ : Memory) (F : Assertion) → σ has Lent ps r κs qs a ∗ F → ∥ Ends ps r Post routine κs qs a σ F ∥₁
+    met-ends : Met → (σ : Memory) (F : Assertion) → σ has Lent ps r κs qs a ∗ F → ∥ Ends ps r Learnt routine κs qs a σ F ∥₁
     met-ends met σ F s =
         let lent : Assertion = Lent ps r κs qs a in
         ∥∥₁-elim
@@ -101,7 +101,7 @@ module _ {n : ℕ} (ps : List (PK n)) (r : RK n) (Post : Out n ps r) (routine : 
         (sat-weaken 𝓤 H 𝓜 σ′ (via 𝓤 ((Said z ∗ back) ∗ F) (monoL 𝓤 F (comm∗ 𝓤 back (Said z))) (assoc∗ 𝓤 (Said z) back F)) s₂))
         ∥∥₁-prop λ said.
         let (w, s₃) = said in
-        ∥∥₁-map (told σ′ (Last w ∗ Allowed z w) (back ∗ F) (Allows ps r Post κs a z w) (snd∗ 𝓤 (Last w) (Allowed z w)) s₃) λ allows.
+        ∥∥₁-map (told σ′ (Last w ∗ Allowed z w) (back ∗ F) (Allows ps r Learnt κs a z w) (snd∗ 𝓤 (Last w) (Allowed z w)) s₃) λ allows.
         record {
           fuel = fuel;
           value = v;
@@ -116,6 +116,6 @@ module _ {n : ℕ} (ps : List (PK n)) (r : RK n) (Post : Out n ps r) (routine : 
               (via 𝓤 (Last w ∗ back ∗ F) (monoL 𝓤 (back ∗ F) (fst∗ 𝓤 (Last w) (Allowed z w))) (assoc′ 𝓤 (Last w) back F)) s₃;
         }
 
-pub met-returns : {n : ℕ} {ps : List (PK n)} {r : RK n} {Post : Out n ps r} {routine : Routine} → Met ps r Post routine → Returns ps r Post routine
-met-returns {ps = ps} {r = r} {Post = Post} {routine = routine} met =
-    record { run = λ κs bounds qs a σ F s. met-ends ps r Post routine κs bounds qs a met σ F s }
+pub met-returns : {n : ℕ} {ps : List (PK n)} {r : RK n} {Learnt : Out n ps r} {routine : Routine} → Met ps r Learnt routine → Returns ps r Learnt routine
+met-returns {ps = ps} {r = r} {Learnt = Learnt} {routine = routine} met =
+    record { run = λ κs bounds qs a σ F s. met-ends ps r Learnt routine κs bounds qs a met σ F s }

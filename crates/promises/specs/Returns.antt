@@ -51,7 +51,7 @@ module _ {n : ℕ} (ps : List (PK n)) (r : RK n) (κs : Lfts n) (qs : Shares n) 
       ∗ alive (w₀ .𝓤) (w₀ .H) (w₀ .𝓖 .A) (sigOf n ps r) κs qs
       ∗ sem (w₀ .𝓤) (w₀ .H) (w₀ .𝓖 .A) (resT r κs .own z (v ∷ []))
 
-module _ {n : ℕ} (ps : List (PK n)) (r : RK n) (Post : Out n ps r) (routine : Routine) where
+module _ {n : ℕ} (ps : List (PK n)) (r : RK n) (Learnt : Out n ps r) (routine : Routine) where
   -- how the run from σ ends
   pub record Ends (κs : Lfts n) (qs : Shares n) (a : Dens κs ps) (σ : Memory) (F : Assertion) : Type 1 where
     pub fuel : ℕ
@@ -62,7 +62,7 @@ module _ {n : ℕ} (ps : List (PK n)) (r : RK n) (Post : Out n ps r) (routine : 
     pub reply : resT r κs .Denot
     pub last : Lasts (endedOf n ps r) κs a
     pub stands-for : Is (resT r κs) reply (value ∷ [])
-    pub allowed : Allows ps r Post κs a reply last
+    pub allowed : Allows ps r Learnt κs a reply last
     -- beside what is handed back, the rest is as it was
     pub left : after has HandedBack ps r κs qs a reply value last ∗ F
 
