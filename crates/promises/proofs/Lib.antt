@@ -1,5 +1,6 @@
 pub mod AcceptDetermined
 pub mod Broken
+pub mod BufferLaws
 pub mod CallerDetermined
 pub mod CauseLaws
 pub mod ContractLaws
@@ -17,6 +18,8 @@ pub mod OrderLaws
 pub mod RequiresMet
 pub mod ReturnLaws
 pub mod Returned
+pub mod RunLaws
+pub mod Ran
 pub mod SameCalls
 pub mod SameListings
 pub mod SectionDetermined

@@ -9,6 +9,7 @@ pub mod Listings
 pub mod Promises
 pub mod Refusals
 pub mod Returns
+pub mod Runs
 pub mod SameFunctions
 pub mod Table
 pub mod Wrong

@@ -5,8 +5,8 @@
 --     a         the arguments, as the contract speaks of them; `encsP κs ps a` is how the machine passes them, as pointers and words
 --     σ         the memory when the call begins. `σ has P`: P holds of it, in the closed model w₀ of the toolchain's logic
 --     F         all the rest, whatever it is. `P ∗ F`: P and F side by side, so that no byte which the one may write is in the other
--- F holds before and after: nothing is changed that was not lent. Nor is it read: σ may have nothing but what is lent, and there a read
--- of anything else is stuck, and a run that is stuck is not done.
+-- F holds before and after: nothing is changed that was not lent. Nor is it read: σ may have nothing but what is lent (`Runs`), and there
+-- a read of anything else is stuck, and a run that is stuck is not done.
 -- It does not say how large the fuel is, which bounds the turns of a loop and the depth of calls and counts no steps. It says nothing of
 -- a memory that has not what is lent, as where a pointer of C is not valid for its length, and nothing of the compiled bytes, of time, or
 -- of the stack, which the machine does not have.
@@ -22,6 +22,7 @@ use ghost.Atoms.{sem}
 use contract.Adequate.{Satisfies}
 use contract.Lifetimes.{Lfts, Shares, AllOutlive}
 use denote.Laws.{Is}
+use denote.RattleType.{RattleType}
 use denote.Triple.Clauses.{Lasts, lasts}
 use denote.Triple.Entry.{alive, onEntry}
 use borrow.Fn.Kinds.{PK, RK, Out, Dens, resT, osR, sigOf, endedOf, valssP, encsP}
@@ -38,6 +39,10 @@ P ∗ Q = sep (w₀ .𝓤) P Q
 infix 26 _has_
 abbrev pub _has_ : Memory → Assertion → Type 1
 σ has P = Satisfies (w₀ .𝓤) (w₀ .H) (w₀ .𝓜) σ P
+
+-- the machine's value v is x, as the definitions have it: each number of x is in its field, and fits
+abbrev pub StandsFor : (R : RattleType) → R .Denot → Val → Type 0
+StandsFor R x v = Is R x (v ∷ [])
 
 module _ {n : ℕ} (ps : List (PK n)) (r : RK n) (κs : Lfts n) (qs : Shares n) (a : Dens κs ps) where
   -- what is lent with the arguments, as the bytes of a slice are, to read or to write, and the hold on each lifetime
@@ -61,7 +66,7 @@ module _ {n : ℕ} (ps : List (PK n)) (r : RK n) (Learnt : Out n ps r) (routine 
     -- the value stands for a reply that the contract allows, with these last values of what was lent to be written
     pub reply : resT r κs .Denot
     pub last : Lasts (endedOf n ps r) κs a
-    pub stands-for : Is (resT r κs) reply (value ∷ [])
+    pub stands-for : StandsFor (resT r κs) reply value
     pub allowed : Allows ps r Learnt κs a reply last
     -- beside what is handed back, the rest is as it was
     pub left : after has HandedBack ps r κs qs a reply value last ∗ F
