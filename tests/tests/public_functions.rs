@@ -219,6 +219,29 @@ fn says_met(proofs: &Proofs, function: &Function) -> bool {
         && proofs.uses(&format!("use {cited}.Reads as {name}-reads"))
 }
 
+/// Whether a file says that the code of a function returns, of that function's own contract and routine.
+fn says_returns(proofs: &Proofs, function: &Function, theorem: &str) -> bool {
+    let of = theorem.trim_end_matches("-returns");
+    let statement = format!("Returns {of}.Kinds.ps {of}.Kinds.r {of}.Reads.Learnt {of}.Symbol.routine");
+    proofs.stated(theorem) == Some(&statement)
+        && proofs.uses("use Rattle.promises.specs.Returns.{Returns}")
+        && proofs.uses(&format!("use {} as {of}", function.cited))
+}
+
+/// The name under which it is said that a function returns: an exported one's, or one of the four calls'.
+fn returns_of(function: &Function) -> Option<String> {
+    let calls = ["check", "lookup", "step", "trace"];
+    let exported = function.name.strip_prefix("suntimpani_").map(|call| format!("exported-{call}-returns"));
+    exported.or_else(|| calls.contains(&&*function.name).then(|| format!("{}-returns", function.name)))
+}
+
+/// Of which functions nothing says that they return, where it must be said.
+fn unreturned(functions: &[Function], proofs: &Proofs) -> Vec<String> {
+    let said =
+        |function: &&Function| returns_of(function).is_some_and(|theorem| !says_returns(proofs, function, &theorem));
+    functions.iter().filter(said).map(|function| format!("{}: nothing states that it returns", function.name)).collect()
+}
+
 /// The rows of a document's tables that begin with a name: the name, and the head of the table.
 fn rows(document: &str) -> Vec<(&str, &str)> {
     let mut rows = Vec::new();
@@ -322,14 +345,32 @@ fn sources_in(folder: &Path, module: &str) -> Vec<Source> {
     sources
 }
 
-#[test]
-fn every_public_function_is_spoken_of() {
+/// The public functions of all libraries.
+fn of_libraries() -> Vec<Function> {
     let libraries = listed(&in_repository("crates")).into_iter().filter(|path| path.join("src/lib.rt").exists());
     let mut functions = Vec::new();
     for library in libraries {
         let name = library.file_name().and_then(|name| name.to_str()).expect("a name");
         functions.extend(functions_of(name, &sources_in(&library.join("src"), "")));
     }
+    functions
+}
+
+#[test]
+fn every_call_and_every_exported_function_returns() {
+    let functions = of_libraries();
+    let proofs = Proofs::of(&text_of(&in_repository("crates/promises/proofs/Returned.antt")));
+    assert_eq!(functions.iter().filter(|function| returns_of(function).is_some()).count(), 8);
+    assert_eq!(unreturned(&functions, &proofs), Vec::<String>::new());
+    // It can fail: what is said of one function is not said of another.
+    let other =
+        text_of(&in_repository("crates/promises/proofs/Returned.antt")).replace("look.lookup as", "look.look as");
+    assert_eq!(unreturned(&functions, &Proofs::of(&other)), ["lookup: nothing states that it returns"]);
+}
+
+#[test]
+fn every_public_function_is_spoken_of() {
+    let functions = of_libraries();
     let proofs = listed(&in_repository("crates/promises/proofs"));
     let proofs: Vec<Proofs> =
         proofs.iter().filter(|path| path.is_file()).map(|path| Proofs::of(&text_of(path))).collect();
@@ -474,6 +515,8 @@ fn a_statement_about_another_contract_is_found() {
     assert_eq!(faults_after("field.get.Reads", "field.put.Reads"), [UNDETERMINED, UNMET]);
     assert_eq!(faults_after("low.proofs", "high.proofs"), [UNDETERMINED, UNMET]);
     assert_eq!(faults_after("get-reads.Learnt", "put-reads.Learnt"), [UNDETERMINED]);
+    // What a function owes is not what a caller may rely on.
+    assert_eq!(faults_after("get-reads.Learnt", "get-reads.Post"), [UNDETERMINED]);
     assert_eq!(faults_after("get-reads.Asked", "put-reads.Asked"), [UNMET]);
 }
 

@@ -1,4 +1,5 @@
--- The numbers of a check, 1 to 15, and when each is given: its rule is broken there, and no test that document 01 tries earlier is.
+-- The numbers of a check, 1 to 15, and when each is given (SPECIFICATION 3.16 and 3.17): its rule is broken there, and no test that
+-- document 01 tries earlier is.
 use mathlib.Core.Path.{_≡_}
 use mathlib.Core.Logic.{_⊎_}
 use mathlib.Core.List.{List, [], _∷_}

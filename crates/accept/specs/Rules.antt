@@ -1,6 +1,6 @@
--- The rules of document 01's table, 1 to 15, each as a plain proposition: what a section that obeys it is like, under the line of the
--- table that says when it is broken. A rule of an entry speaks of entry i, a rule of a row of row k of entry i. Nothing here says how or
--- in which order they are tried.
+-- The rules of document 01's table, 1 to 15 (SPECIFICATION 3.1 to 3.15), each as a plain proposition: what a section that obeys it
+-- is like, under the line of the table that says when it is broken. A rule of an entry speaks of entry i, a rule of a row of row k
+-- of entry i. Nothing here says how or in which order they are tried.
 use mathlib.Core.Path.{_≡_}
 use mathlib.Core.Bool.{true, false}
 use mathlib.Core.Logic.{_⊎_}

@@ -1,4 +1,5 @@
--- What a frame's registers say by themselves: the PC that is asked, CFA by a row, and the caller's SP by CFA.
+-- What a frame's registers say by themselves (SPECIFICATION 5.6 and 5.11): the PC that is asked, CFA by a row, and the caller's SP
+-- by CFA.
 use Prim.Native.Nat.{ℕ}
 use lib.IntN.{ℤ, pos, _+ℤ_}
 use Rattle.section.specs.declared.row.Base.{Base}

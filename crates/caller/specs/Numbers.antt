@@ -1,5 +1,5 @@
--- The numbers of a step: why there is no caller, by name, and document 01's number of each cause; and of each answer the number and what
--- it carries.
+-- The numbers of a step (SPECIFICATION 5.3 to 5.12): why there is no caller, by name, and document 01's number of each cause; and of
+-- each answer the number and what it carries.
 use Prim.Native.Nat.{ℕ}
 use mathlib.Core.List.{List, [], _∷_}
 use Rattle.accept.specs.Given.{Rule, numberOfRule}

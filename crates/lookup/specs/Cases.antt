@@ -1,5 +1,5 @@
--- When each answer is given, as plain propositions over an accepted section s and d, "PC minus section address": nothing here
--- says how a function or a row is looked for.
+-- When each answer is given (SPECIFICATION 4.1 to 4.7), as plain propositions over an accepted section s and d, "PC minus section
+-- address": nothing here says how a function or a row is looked for.
 use mathlib.Core.Path.{_≡_}
 use mathlib.Core.List.{List}
 use Prim.Native.Nat.{ℕ, _+_, _*_, _≤_, _<_}

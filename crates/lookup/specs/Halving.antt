@@ -1,4 +1,5 @@
--- Document 01, "Finding the row": the number of entries compared, and the halving rule that gives it in a sorted section.
+-- Document 01, "Finding the row" (SPECIFICATION 4.8): the number of entries compared, and the halving rule that gives it in a sorted
+-- section.
 use Prim.Native.Nat.{ℕ, zero, suc, _+_, _/_}
 use mathlib.Core.Bool.{Bool, true, false}
 use mathlib.Core.List.{List, []}

@@ -1,5 +1,5 @@
--- The numbers of a lookup: why nothing is found, by name, and document 01's number of each cause; and of each answer the number and what
--- it carries.
+-- The numbers of a lookup (SPECIFICATION 4.3 to 4.7): why nothing is found, by name, and document 01's number of each cause; and of
+-- each answer the number and what it carries.
 use Prim.Native.Nat.{ℕ}
 use mathlib.Core.List.{List, [], _∷_}
 use Rattle.section.specs.declared.row.Row.{Row}

@@ -1,5 +1,5 @@
--- Document 01, "Section bytes": all numbers are in the section's byte order. One definition, over the list, the place, the
--- width and the order, is what every reader of a number is held to.
+-- Document 01, "Section bytes" (SPECIFICATION 2.1): all numbers are in the section's byte order. One definition, over the list, the
+-- place, the width and the order, is what every reader of a number is held to.
 use Prim.Native.Nat.{ℕ, _+_, _*_}
 use mathlib.Core.List.{List, [], _∷_, reverse}
 use lib.ListN.{take, drop}

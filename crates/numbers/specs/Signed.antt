@@ -1,4 +1,5 @@
--- Signed fields and offsets, over exact whole numbers. Document 01: "Reading offset byte f0 as 240" is a slip; it is -16.
+-- Signed fields and offsets (SPECIFICATION 2.1), over exact whole numbers. Document 01: "Reading offset byte f0 as 240" is a slip;
+-- it is -16.
 use Prim.Native.Nat.{ℕ, _^_, _/_}
 use mathlib.Core.Bool.{true, false}
 use lib.Dec.{ltb}

@@ -1,4 +1,4 @@
--- Starts, and the distance d that they are compared with, both exact whole numbers.
+-- Starts (SPECIFICATION 2.6), and the distance d that they are compared with (SPECIFICATION 4.1), both exact whole numbers.
 use Prim.Native.Nat.{ℕ, _+_}
 use lib.IntN.{ℤ, pos, _+ℤ_, _-ℤ_}
 use Rattle.numbers.specs.Signed.{signedOf}

@@ -34,10 +34,10 @@ use Rattle.caller.proofs.registers.Where as where-type
 use Rattle.caller.proofs.registers.Where.Laws as where-laws
 use Rattle.suntimpani.specs.Flat.{handedAs}
 use Rattle.suntimpani.specs.declared.walks.TracedInC.{TracedInC}
-use Rattle.suntimpani.proofs.flat.VerdictInC as checked-type
-use Rattle.suntimpani.proofs.flat.AnswerInC as looked-type
-use Rattle.suntimpani.proofs.walks.StepInC as stepped-type
-use Rattle.suntimpani.proofs.walks.TracedInC as walked-type
+use Rattle.suntimpani.proofs.flat.VerdictInC as verdict-type
+use Rattle.suntimpani.proofs.flat.AnswerInC as answer-type
+use Rattle.suntimpani.proofs.walks.StepInC as step-type
+use Rattle.suntimpani.proofs.walks.TracedInC as traced-type
 use Rattle.suntimpani.proofs.suntimpani_check as exported-check
 use Rattle.suntimpani.proofs.suntimpani_lookup as exported-lookup
 use Rattle.suntimpani.proofs.suntimpani_caller as exported-caller
@@ -83,7 +83,7 @@ the-registers registers fit = struct-laws.makes registers-type.the-type register
 -- ---- the runs
 
 pub exported-check-runs : (s : List ℕ) → Bytes s
-    → Runs exported-check.Symbol.routine (whole 0 s ∷ []) (startMem s []) (λ value after. StandsFor checked-type.the-row (exported .check s) value)
+    → Runs exported-check.Symbol.routine (whole 0 s ∷ []) (startMem s []) (λ value after. StandsFor verdict-type.the-row (exported .check s) value)
 exported-check-runs s bytes =
     ∥∥₁-elim (and-slice (emp 𝓤) 0 s 0 bytes (nothing-yet (one-block s bytes))) ∥∥₁-prop λ lent.
     let (α, γ, all) = lent in
@@ -93,7 +93,7 @@ exported-check-runs s bytes =
 
 pub exported-lookup-runs : (s : List ℕ) (address pc : ℕ) → Bytes s → address < 2 ^ 64 → pc < 2 ^ 64
     → Runs exported-lookup.Symbol.routine (whole 0 s ∷ vint w64 address ∷ vint w64 pc ∷ []) (startMem s [])
-    (λ value after. StandsFor looked-type.the-row (exported .lookup s address pc) value)
+    (λ value after. StandsFor answer-type.the-row (exported .lookup s address pc) value)
 exported-lookup-runs s address pc bytes address-fits pc-fits =
     ∥∥₁-elim
     (and-slice (emp 𝓤) 0 s 0 bytes (and-value (word address address-fits) (and-value (word pc pc-fits) (nothing-yet (one-block s bytes)))))
@@ -105,7 +105,7 @@ exported-lookup-runs s address pc bytes address-fits pc-fits =
 
 pub exported-caller-runs : (s stack : List ℕ) (lies : Where) (registers : Registers) → Bytes s → Bytes stack → WhereFits lies → RegistersFit registers
     → Runs exported-caller.Symbol.routine (whole 0 s ∷ whole 1 stack ∷ whereValue lies ∷ registersValue registers ∷ []) (startMem s stack)
-    (λ value after. StandsFor stepped-type.the-row (exported .step s stack lies registers) value)
+    (λ value after. StandsFor step-type.the-row (exported .step s stack lies registers) value)
 exported-caller-runs s stack lies registers section-bytes stack-bytes lies-fits registers-fit =
     ∥∥₁-elim
     (and-slice (Block 0 s ∗ emp 𝓤) 1 stack 1 stack-bytes
@@ -133,7 +133,7 @@ module _ (κs : Lfts 3) (qs : Shares 3) (a : Dens κs exported-trace.Kinds.ps) (
   gives-back z v P Q R =
       qed W ((‵ (lasts (endedOf 3 exported-trace.Kinds.ps exported-trace.Kinds.r) κs a w)
       ⊛ (raw (A .lft (κs .0) (qs .0)) ⊛ raw (A .lft (κs .1 .0) (qs .1 .0)) ⊛ raw (A .lft (κs .1 .1 .0) (qs .1 .1 .0)) ⊛ ‵ ftrue)
-      ⊛ raw (sem 𝓤 H A (walked-type.the-row .own z (v ∷ [])))) ∷ (raw P ⊛ raw Q ⊛ raw R ⊛ ‵ ftrue) ∷ ‵ ftrue ∷ []) ∵
+      ⊛ raw (sem 𝓤 H A (traced-type.the-row .own z (v ∷ [])))) ∷ (raw P ⊛ raw Q ⊛ raw R ⊛ ‵ ftrue) ∷ ‵ ftrue ∷ []) ∵
       -- nothing is said of the last values of the first five parameters
       split3 ! $ fsplit ! $ drop ! $ fsplit ! $ drop ! $ fsplit ! $ drop ! $ fsplit ! $ drop ! $ fsplit ! $ drop ! $ fsplit ! $ fsplit ! $
       -- [the last words; their number; true; the hold on each lifetime; the reply; what the lenders kept; true]
@@ -145,7 +145,7 @@ pub exported-trace-runs : (s stack : List ℕ) (lies : Where) (registers : Regis
     → Runs exported-trace.Symbol.routine
     (whole 0 s ∷ whole 1 stack ∷ whereValue lies ∷ registersValue registers ∷ vint w64 limit ∷ whole 2 old ∷ []) σ
     (λ value after.
-    StandsFor walked-type.the-row (exported .trace s stack lies registers limit old .answer) value
+    StandsFor traced-type.the-row (exported .trace s stack lies registers limit old .answer) value
     × BufferHas after (length old) (exported .trace s stack lies registers limit old .words))
 unfolding handedAs
 exported-trace-runs s stack lies registers limit old σ section-bytes stack-bytes lies-fits registers-fit limit-fits old-words is-stored =
@@ -177,7 +177,7 @@ exported-trace-runs s stack lies registers limit old σ section-bytes stack-byte
       end .after,
       end .ends,
       (
-        subst (λ z. StandsFor walked-type.the-row z (end .value)) (ap (λ both. both .answer) same) (end .stands-for),
+        subst (λ z. StandsFor traced-type.the-row z (end .value)) (ap (λ both. both .answer) same) (end .stands-for),
         subst (λ ws. BufferHas (end .after) (length old) ws) (ap (λ both. both .words) same) loaded,
       ),
     )

@@ -1,6 +1,6 @@
 -- Demand 1: on anything that is handed in, "each refusal has a number, is given exactly under its rule, and leaves the buffer as the
--- rules say." A predicate of any four calls; the causes of each call and its numbers stand in the layers. That no call reads outside what
--- was lent and that every call ends is `Returns`.
+-- rules say." A predicate of any four calls; the causes of each call and its numbers stand in the layers. That no call reads outside
+-- what was lent and that every call ends is `Returns`.
 use mathlib.Core.Path.{_≡_}
 use mathlib.Core.List.{List, [], _∷_}
 use mathlib.Core.Logic.{_⊎_, _↔_}

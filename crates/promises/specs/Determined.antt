@@ -1,7 +1,7 @@
--- Document 01: "Every public function, on every input, determines its reply and the words left in lent buffers, refusals too. A proof
--- shows that two replies allowed for one input are equal". Stated of a function's own contract: `ps` and `r` are the kinds of its
--- parameters and of its result, `Learnt` is what a caller may rely on after a call, by its `ensures`; the toolchain makes the three from the
--- source.
+-- Document 01: "Every public function, on every input, determines its reply and the words left in lent buffers, refusals too. A
+-- proof shows that two replies allowed for one input are equal". Stated of a function's own contract: `ps` and `r` are the kinds of
+-- its parameters and of its result, `Learnt` is what a caller may rely on after a call, by its `ensures`; the toolchain makes the
+-- three from the source.
 use mathlib.Core.Path.{_≡_}
 use mathlib.Core.List.{List}
 use Prim.Native.Nat.{ℕ}

@@ -1,5 +1,5 @@
--- Document 01, "Finding the row": when two sections list the same functions. Two functions are the same exactly when they are equal,
--- since the decoded meaning leaves out all that doesn't count (`function-same` of the crate section).
+-- Document 01, "Finding the row" (SPECIFICATION 4.11): when two sections list the same functions. Two functions are the same exactly
+-- when they are equal, since the decoded meaning leaves out all that doesn't count (`function-same` of the crate section).
 use mathlib.Core.Path.{_≡_}
 use mathlib.Core.List.{List, count}
 use mathlib.Core.Nat as Counted

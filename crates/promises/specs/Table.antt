@@ -1,5 +1,5 @@
--- Document 01, "Numbers to agree on": K1 to K12 as a single table of sections, questions and expected replies, and beside it the three
--- AArch64 examples, which bear no K. The replies are asked of any four calls.
+-- Document 01, "Numbers to agree on" (SPECIFICATION 7.1 to 7.3): K1 to K12 as a single table of sections, questions and expected
+-- replies, and beside it the three AArch64 examples, which bear no K. The replies are asked of any four calls.
 use mathlib.Core.Path.{_≡_}
 use mathlib.Core.List.{List, [], _∷_}
 use Prim.Native.Nat.{ℕ}

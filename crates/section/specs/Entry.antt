@@ -1,4 +1,4 @@
--- Document 01, "Section bytes": a function entry's 20 bytes, what stands where, and its effective start.
+-- Document 01, "Section bytes" (SPECIFICATION 2.5): a function entry's 20 bytes, what stands where, and its effective start.
 use Prim.Native.Nat.{ℕ, _+_, _%_}
 use mathlib.Core.Bool.{Bool, true, false}
 use mathlib.Core.List.{List}

@@ -1,5 +1,5 @@
--- Document 01, "Section bytes": the header's 28 bytes, what stands where, over any bytes. What everything after check 8
--- needs of it is `layoutOf`.
+-- Document 01, "Section bytes" (SPECIFICATION 2.2 to 2.4): the header's 28 bytes, what stands where, over any bytes. What everything
+-- after check 8 needs of it is `layoutOf`.
 use Prim.Native.Nat.{ℕ, _+_, _*_, _^_, _/_, _%_}
 use mathlib.Core.Bool.{Bool, true, false}
 use mathlib.Core.List.{List}

@@ -1,5 +1,5 @@
--- Document 01, "Section bytes": "Row: start (unsigned), one info byte, then the offsets, signed." Rows stand in the row area,
--- a list of its own; `code` is the row type of the function's entry, so that a start has 2 ^ code bytes.
+-- Document 01, "Section bytes" (SPECIFICATION 2.7 to 2.9): "Row: start (unsigned), one info byte, then the offsets, signed." Rows
+-- stand in the row area, a list of its own; `code` is the row type of the function's entry, so that a start has 2 ^ code bytes.
 use Prim.Native.Nat.{ℕ, zero, suc, _+_, _*_, _^_, _/_, _%_}
 use mathlib.Core.Bool.{Bool, true, false, _&&_}
 use mathlib.Core.List.{List}

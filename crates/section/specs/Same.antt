@@ -1,5 +1,5 @@
--- Document 01: "Two functions are the same when .." and "Two rows are the same when ..", said of the bytes, number by number.
--- That the decoded meaning says the same of them is `row-same` and `function-same` of proofs/SameLaws.
+-- Document 01: "Two functions are the same when .." and "Two rows are the same when .." (SPECIFICATION 4.9 and 4.10), said of the
+-- bytes, number by number. That the decoded meaning says the same of them is `row-same` and `function-same` of proofs/SameLaws.
 use mathlib.Core.Path.{_≡_}
 use mathlib.Core.Bool.{true}
 use mathlib.Core.List.{List}

@@ -1,5 +1,5 @@
--- What differs by ABI, in one record: byte order, the counts allowed, which offset is what, the fixed offsets, and whether
--- the signed bit counts. A fourth ABI is one more clause.
+-- What differs by ABI (SPECIFICATION 2.9 and 3.7), in one record: byte order, the counts allowed, which offset is what, the fixed
+-- offsets, and whether the signed bit counts. A fourth ABI is one more clause.
 use Prim.Native.Nat.{ℕ}
 use mathlib.Core.Bool.{Bool, true, false, _&&_}
 use lib.Dec.{leb, eqb}

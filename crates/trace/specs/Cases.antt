@@ -1,5 +1,5 @@
--- When each ending is given, as plain propositions over any section, stack, registers, limit and buffer: nothing here says how the
--- walk is made.
+-- When each ending is given (SPECIFICATION 6.2 to 6.10), as plain propositions over any section, stack, registers, limit and buffer:
+-- nothing here says how the walk is made.
 use mathlib.Core.Path.{_≡_}
 use mathlib.Core.List.{List, []}
 use mathlib.Core.Logic.{_⊎_}

@@ -1,4 +1,5 @@
--- The limit in force, a frame and its words, and what a trace leaves of the lent buffer.
+-- The limit in force (SPECIFICATION 6.1), a frame and its words (SPECIFICATION 6.5), and what a trace leaves of the lent buffer
+-- (SPECIFICATION 6.9).
 use Prim.Native.Nat.{ℕ}
 use mathlib.Core.Bool.{true, false}
 use mathlib.Core.List.{List, [], _∷_, _++_}

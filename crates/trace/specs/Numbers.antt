@@ -1,5 +1,5 @@
--- The numbers of a trace: why it is refused or ends, by name, and document 01's number of each cause; and of each ending the number and
--- what it carries.
+-- The numbers of a trace (SPECIFICATION 6.2 to 6.8): why it is refused or ends, by name, and document 01's number of each cause; and
+-- of each ending the number and what it carries.
 use Prim.Native.Nat.{ℕ}
 use mathlib.Core.List.{List, [], _∷_}
 use Rattle.accept.specs.Given.{Rule, numberOfRule}
