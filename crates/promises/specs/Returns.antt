@@ -5,8 +5,8 @@
 --     a         the arguments, as the contract speaks of them; `encsP κs ps a` is how the machine passes them, as pointers and words
 --     σ         the memory when the call begins. `σ has P`: P holds of it, in the closed model w₀ of the toolchain's logic
 --     F         all the rest, whatever it is. `P ∗ F`: P and F side by side, so that no byte which the one may write is in the other
--- F holds before and after: nothing is changed that was not lent. Nor is it read: σ may have nothing but what is lent (`Runs`), and there
--- a read of anything else is stuck, and a run that is stuck is not done.
+-- F holds before and after: nothing is changed that was not lent. And where σ has nothing but what is lent (`Runs`), nothing else is read:
+-- such a read is stuck, and a run that is stuck is not done.
 -- It does not say how large the fuel is, which bounds the turns of a loop and the depth of calls and counts no steps. It says nothing of
 -- a memory that has not what is lent, as where a pointer of C is not valid for its length, and nothing of the compiled bytes, of time, or
 -- of the stack, which the machine does not have.
@@ -71,7 +71,7 @@ module _ {n : ℕ} (ps : List (PK n)) (r : RK n) (Learnt : Out n ps r) (routine 
     -- beside what is handed back, the rest is as it was
     pub left : after has HandedBack ps r κs qs a reply value last ∗ F
 
-  -- from every memory that has what is lent, beside any rest, the run ends. Nothing else is asked: it is for a function with no `requires`
+  -- from every memory that has what is lent, beside any rest, there is such an end. Nothing else is asked: the function has no `requires`
   pub record Returns : Type 2 where
     pub run : (κs : Lfts n) → AllOutlive n (osR r) κs → (qs : Shares n) (a : Dens κs ps) (σ : Memory) (F : Assertion)
         → σ has Lent ps r κs qs a ∗ F
