@@ -7,7 +7,6 @@ use mathlib.Core.Logic.{_⊎_, inl, inr, _↔_, Iff·trans, ⊎-elim}
 use Prim.Native.Nat.{ℕ}
 use native.Mathlib.Omega.{arith}
 use lib.IntN.{ℤ}
-use Rattle.numbers.specs.Start.{distance}
 use Rattle.numbers.specs.declared.address.Word.{Word}
 use Rattle.numbers.specs.declared.address.Word.the-variants as word
 use Rattle.section.specs.Header.{layoutOf}
@@ -34,6 +33,7 @@ use Rattle.caller.specs.Numbers.{Refusal, unfound, signed, cfaOutside, c
 use Rattle.caller.specs.computed.Caller.{bothOf, ifFits, stepAfter, lookAt, withValues, stepOf, stepIn}
 use Rattle.caller.specs.declared.place.Values.{Values}
 use Rattle.caller.specs.declared.place.Values.the-variants.{Both, NoRa, NoFp}
+use Rattle.caller.specs.declared.registers.Asked.the-variants.{At}
 use Rattle.caller.specs.declared.registers.Registers.{Registers}
 use Rattle.caller.specs.declared.registers.Step.{Step}
 use Rattle.caller.specs.declared.registers.Step.the-variants.{Caller, Unsound, Refused}
@@ -110,17 +110,22 @@ module _ (s stack : List ℕ) (lies : Where) (registers : Registers) where
   -- "Lookup at PC.": a step finds the row that a lookup of the PC asked answers by itself
   pub row-exactly-when : (row : Row)
       → RowFound s stack lies registers row
-      ↔ LookedUp s stack lies registers (λ d. (pc : ℕ) × (i : ℕ) × (k : ℕ) × (d ≡ distance (lies .section) pc)
+      ↔ (WindowFits stack lies
+      × Obeys s
+      × (pc : ℕ)
+      × (askedOf registers ≡ At pc)
+      × (i : ℕ)
+      × (k : ℕ)
       × (lookupOf s (lies .section) pc .outcome ≡ Found row i k))
   row-exactly-when row = (
     λ h.
         let (i, k, found) = h .holds in
         let is = lookup.found-exactly-when s (accepted-exactly-when s .1 (h .obeys)) (lies .section) (h .pc) row i k .1 found in
-        record { fits = h .fits; obeys = h .obeys; pc = h .pc; asked = h .asked; holds = (h .pc, i, k, refl, is) },
+        (h .fits, h .obeys, h .pc, h .asked, i, k, is),
     λ h.
-        let (pc, i, k, same, is) = h .holds in
-        let found = lookup.found-exactly-when s (accepted-exactly-when s .1 (h .obeys)) (lies .section) pc row i k .0 is in
-        record { fits = h .fits; obeys = h .obeys; pc = h .pc; asked = h .asked; holds = (i, k, rw same found) },
+        let (fits, obeys, pc, asked, i, k, is) = h in
+        let found = lookup.found-exactly-when s (accepted-exactly-when s .1 obeys) (lies .section) pc row i k .0 is in
+        record { fits = fits; obeys = obeys; pc = pc; asked = asked; holds = (i, k, found) },
   )
 
   -- "21, 22, 23."

@@ -8,7 +8,7 @@ use native.Mathlib.Omega.{arith}
 use lib.ListN.{getD}
 use Rattle.numbers.specs.Start.{distance}
 use Rattle.section.specs.declared.row.Row.{Row}
-use Rattle.accept.specs.Given.{Rule, numberOfRule}
+use Rattle.accept.specs.Given.{numberOfRule}
 use Rattle.accept.specs.Rules.{Obeys}
 use Rattle.accept.specs.computed.Checks.{verdict}
 use Rattle.accept.specs.declared.verdict.Verdict.the-variants.{Accepted}

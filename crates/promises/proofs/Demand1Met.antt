@@ -1,10 +1,8 @@
 -- Demand 1 holds of what the contracts of our four functions name: each line is a theorem of its layer.
 -- Assumes nothing.
-use mathlib.Core.Path.{_≡_}
 use mathlib.Core.List.{List}
 use mathlib.Core.Logic.{_⊎_, inl, inr, Iff·trans, ⊎-elim}
 use Prim.Native.Nat.{ℕ}
-use Rattle.numbers.specs.Start.{distance}
 use Rattle.accept.specs.Given.{numberOfRule}
 use Rattle.accept.proofs.CauseLaws.{check-given, check-index}
 use Rattle.accept.proofs.Exactly.{accepted-exactly-when, given-exactly-when, obeys-or-refusal}

@@ -1,8 +1,7 @@
 -- Demand 2 holds of what the contracts of our four functions name.
 -- Assumes nothing.
-use mathlib.Core.Path.{_≡_, sym, _∙_, ap}
 use mathlib.Core.List.{List}
-use Prim.Native.Nat.{ℕ, _<_}
+use Prim.Native.Nat.{ℕ}
 use lib.ListN.{length}
 use Rattle.accept.proofs.Exactly.{accepted-exactly-when}
 use Rattle.lookup.proofs.Exactly.{answer-exactly-when}

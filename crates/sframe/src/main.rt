@@ -17,7 +17,7 @@ use crate::say::complain;
 use crate::show::show_answer;
 use crate::show::show_verdict;
 use crate::version::show_version;
-use crate::walks::Walk;
+use crate::walks::Sought;
 use crate::walks::answer_walk;
 use hexadecimal::Parsed;
 use lookup::look::lookup;
@@ -29,7 +29,7 @@ const SECTION: usize = 6_291_456;
 enum Question {
     Check,
     Lookup,
-    Walks(Walk),
+    Walks(Sought),
 }
 
 enum Command {
@@ -72,10 +72,10 @@ fn command_of(word: &[u8]) -> Command {
         return Command::Asks(Question::Lookup);
     }
     if is_same(word, b"caller") {
-        return Command::Asks(Question::Walks(Walk::Caller));
+        return Command::Asks(Question::Walks(Sought::Caller));
     }
     if is_same(word, b"trace") {
-        return Command::Asks(Question::Walks(Walk::Trace));
+        return Command::Asks(Question::Walks(Sought::Trace));
     }
     own_command_of(word)
 }
@@ -100,12 +100,12 @@ fn has_all(question: Question, given: usize) -> bool {
         Question::Check => are_all(given, 1, b"sframe: 'check' takes FILE\n"),
         Question::Lookup => are_all(given, 3, b"sframe: 'lookup' takes FILE ADDRESS PC\n"),
         Question::Walks(asked) => match asked {
-            Walk::Caller => are_all(
+            Sought::Caller => are_all(
                 given,
                 9,
                 b"sframe: 'caller' takes FILE ADDRESS STACK STACK_ADDRESS PC SP FP LR FIRST\n",
             ),
-            Walk::Trace => are_all(
+            Sought::Trace => are_all(
                 given,
                 9,
                 b"sframe: 'trace' takes FILE ADDRESS STACK STACK_ADDRESS PC SP FP LR LIMIT\n",

@@ -16,7 +16,8 @@ const STACK: usize = 1_048_576;
 // Three words for each of 256 frames.
 const WORDS: usize = 768;
 
-pub enum Walk {
+// What is sought: one caller, or a whole trace.
+pub enum Sought {
     Caller,
     Trace,
 }
@@ -100,7 +101,7 @@ fn answer_trace(section: &[u8], stack: &[u8], lies: Where, registers: Registers)
     trace_into(section, stack, lies, registers, limit, &mut buffer);
 }
 
-fn answer_from(asked: Walk, section: &[u8], address: u64, stack: &[u8]) {
+fn answer_from(asked: Sought, section: &[u8], address: u64, stack: &[u8]) {
     match start_given() {
         Start::Wrong => {}
         Start::From {
@@ -112,8 +113,8 @@ fn answer_from(asked: Walk, section: &[u8], address: u64, stack: &[u8]) {
                 stack: lies,
             };
             match asked {
-                Walk::Caller => answer_caller(section, stack, lies, registers),
-                Walk::Trace => answer_trace(section, stack, lies, registers),
+                Sought::Caller => answer_caller(section, stack, lies, registers),
+                Sought::Trace => answer_trace(section, stack, lies, registers),
             }
         }
     }
@@ -123,7 +124,7 @@ fn stack_room() -> [u8; STACK + 1] {
     [0u8; STACK + 1]
 }
 
-pub fn answer_walk(asked: Walk, section: &[u8]) {
+pub fn answer_walk(asked: Sought, section: &[u8]) {
     let Parsed::Number(address) = number_given(3, b"ADDRESS") else {
         return;
     };
