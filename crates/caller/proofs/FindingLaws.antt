@@ -25,7 +25,7 @@ use Rattle.lookup.proofs.NumberLaws.{number-of-unfound}
 -- ---- the lookup's own answer, by any outcome
 
 refuses-number : (o : Outcome) (number : ℕ) → 0 < number → (findingOf o ≡ refuses number) ↔ (outcomeNumber o ≡ number)
-unfolding findingOf outcomeNumber
+unfolding findingOf numberOfUnfound outcomeNumber
 refuses-number (Found row i k) number h = (λ e. absurd (let z : _≡_ {A = ℕ} 0 1 = cc in omega arith), λ e. absurd (omega arith))
 refuses-number (Unsound m i) number h = (λ e. cc, λ e. ap refuses e)
 refuses-number NoFunction number h = (λ e. cc, λ e. ap refuses e)
@@ -33,7 +33,7 @@ refuses-number (Dispute i j) number h = (λ e. cc, λ e. ap refuses e)
 refuses-number (NoRow i) number h = (λ e. cc, λ e. ap refuses e)
 
 finds-row : (o : Outcome) (row : Row) (k : ℕ) → (findingOf o ≡ finds row k) ↔ ((i : ℕ) × (o ≡ Found row i k))
-unfolding findingOf
+unfolding findingOf numberOfUnfound
 finds-row (Found other i j) row k = (λ e. (i, cc), λ h. let e = h .1 in cc)
 finds-row (Unsound m i) row k = (λ e. absurd (let z : _≡_ {A = ℕ} 0 1 = cc in omega arith), λ h. let e = h .1 in cc)
 finds-row NoFunction row k = (λ e. absurd (let z : _≡_ {A = ℕ} 0 1 = cc in omega arith), λ h. let e = h .1 in cc)

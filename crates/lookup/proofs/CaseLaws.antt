@@ -22,7 +22,7 @@ use Rattle.accept.specs.declared.verdict.Verdict.the-variants.{Accepted}
 use Rattle.accept.proofs.AcceptedLaws.{accepted-laws}
 use Rattle.lookup.specs.Cases.{Covers, NoneCovers, OnlyCovers, SomeTwoCover, LowestTwo, LastAtMost, NoneAtMost, OffsetIs, rowOfFunction, FoundCase, NoRowCase, Case}
 use Rattle.lookup.specs.Halving.{emptyFunction}
-use Rattle.lookup.specs.Numbers.{outcomeNumber}
+use Rattle.lookup.specs.Numbers.{numberOfUnfound, outcomeNumber}
 use Rattle.lookup.specs.computed.Answers.{withRow, withCover, outcome}
 use Rattle.lookup.specs.computed.Rows.{offsetWithin, lastRow, rowFor}
 use Rattle.lookup.specs.declared.answer.Outcome.{Outcome}
@@ -171,7 +171,7 @@ Reason s d number =
 
 module _ (s : List ℕ) (d : ℤ) where
   reason : (o : Outcome) → Case s d o → Reason s d (outcomeNumber o)
-  unfolding outcomeNumber
+  unfolding outcomeNumber numberOfUnfound
   reason (Found row i k) h = (row, i, k, h)
   reason (Unsound number index) h = absurd h
   reason NoFunction h = h

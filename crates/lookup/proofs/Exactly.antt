@@ -18,7 +18,7 @@ use Rattle.accept.specs.declared.verdict.Verdict.the-variants.{Accepted, Refuse
 use Rattle.accept.proofs.AcceptedLaws.{accepted-laws}
 use Rattle.lookup.specs.Cases.{NoneCovers, SomeTwoCover, LowestTwo, FoundCase, NoRowCase, Case}
 use Rattle.lookup.specs.Halving.{landing, compared}
-use Rattle.lookup.specs.Numbers.{outcomeNumber}
+use Rattle.lookup.specs.Numbers.{numberOfUnfound, outcomeNumber}
 use Rattle.lookup.specs.computed.Answers.{outcome, answer, answerOf, answerAfter, lookupOf}
 use Rattle.lookup.specs.computed.Covering.{covering, coverOf}
 use Rattle.lookup.specs.inner.Search.{coverBy}
@@ -58,7 +58,7 @@ module _ (s : List ℕ) (accepted : verdict s ≡ Accepted) (address pc : ℕ) w
 
   -- 0 stands for a found row
   pub number-0-exactly-when : (outcomeNumber (lookupOf s address pc .outcome) ≡ 0) ↔ ((row : Row) × (i : ℕ) × (k : ℕ) × FoundCase s d row i k)
-  unfolding outcomeNumber
+  unfolding outcomeNumber numberOfUnfound
   number-0-exactly-when = (says 0, λ h. let (row, i, k, found) = h in makes (Found row i k) found)
 
   -- "21: no function covers; no index is returned."
@@ -66,7 +66,7 @@ module _ (s : List ℕ) (accepted : verdict s ≡ Accepted) (address pc : ℕ) w
   no-function-exactly-when = answer-exactly-when NoFunction
 
   pub number-21-exactly-when : (outcomeNumber (lookupOf s address pc .outcome) ≡ 21) ↔ NoneCovers s d
-  unfolding outcomeNumber
+  unfolding outcomeNumber numberOfUnfound
   number-21-exactly-when = (says 21, makes NoFunction)
 
   -- "22: two or more do ..; the two lowest indexes are returned."
@@ -74,7 +74,7 @@ module _ (s : List ℕ) (accepted : verdict s ≡ Accepted) (address pc : ℕ) w
   dispute-exactly-when i j = answer-exactly-when (Dispute i j)
 
   pub number-22-exactly-when : (outcomeNumber (lookupOf s address pc .outcome) ≡ 22) ↔ SomeTwoCover s d
-  unfolding outcomeNumber
+  unfolding outcomeNumber numberOfUnfound
   number-22-exactly-when = (
     λ is. let (i, j, (less, here, there, least)) = says 22 is in (i, j, less, here, there),
     λ two. let (i, j, h) = lowest-two s d two in makes (Dispute i j) h,
@@ -91,7 +91,7 @@ module _ (s : List ℕ) (accepted : verdict s ≡ Accepted) (address pc : ℕ) w
   no-row-exactly-when i = answer-exactly-when (NoRow i)
 
   pub number-23-exactly-when : (outcomeNumber (lookupOf s address pc .outcome) ≡ 23) ↔ ((i : ℕ) × NoRowCase s d i)
-  unfolding outcomeNumber
+  unfolding outcomeNumber numberOfUnfound
   number-23-exactly-when = (says 23, λ h. let (i, none) = h in makes (NoRow i) none)
 
   -- a sorted section is halved, any other is scanned: what is found is the same, since only the entry landed on can cover

@@ -16,7 +16,7 @@ use Rattle.section.specs.Meaning.{Block, plain, repeated, Function, entryIn, fu
 use Rattle.section.specs.SectionS.{sectionS, overlappingS, unsortedS, atEntry, withFrame}
 use Rattle.section.specs.declared.row.Row.{Row}
 use Rattle.lookup.specs.Halving.{halve}
-use Rattle.lookup.specs.Numbers.{outcomeNumber}
+use Rattle.lookup.specs.Numbers.{numberOfUnfound, outcomeNumber}
 use Rattle.lookup.specs.computed.Answers.{withCover, outcome, lookupOf}
 use Rattle.lookup.specs.computed.Covering.{covering}
 use Rattle.lookup.specs.computed.Rows.{inBlock, lastRow, rowFor}
@@ -154,7 +154,7 @@ not-one-row row all =
     omega arith
 
 not-always-21 : ¬ ((pc : ℕ) → outcomeNumber (lookupOf sectionS 0x400000 pc .outcome) ≡ 21)
-unfolding outcomeNumber
+unfolding outcomeNumber numberOfUnfound
 not-always-21 all = let z : _≡_ {A = ℕ} 0 21 = sym (ap (λ a. outcomeNumber (a .outcome)) K4) ∙ all 0x401003 in omega arith
 
 not-made-up : (count : ℕ) → ¬ ((pc : ℕ) → lookupOf sectionS 0x400000 pc .compared ≡ count)

@@ -169,7 +169,7 @@ module _ (s : List ℕ) (address pc : ℕ) where
   number = outcomeNumber (lookupOf s address pc .outcome)
 
   lookup-makes : (cause : LookupCause) → OnLookup s (distance address pc) cause → number ≡ numberOfLookupCause cause
-  unfolding outcomeNumber numberOfLookupCause
+  unfolding outcomeNumber numberOfUnfound numberOfLookupCause
   lookup-makes (unsound rule) (index, given) =
       ap outcomeNumber (unsound-exactly-when s address pc (numberOfRule rule) index .1 (given-exactly-when s rule index .1 given))
   lookup-makes (unfound why) (obeys, case) = unfound-exactly-when s (accepted-exactly-when s .1 obeys) address pc why .1 case
@@ -186,7 +186,7 @@ module _ (s : List ℕ) (address pc : ℕ) where
       (obeys-or-refusal s)
 
   pub lookup-due : Due numberOfLookupCause number (OnLookup s (distance address pc))
-  unfolding outcomeNumber
+  unfolding outcomeNumber numberOfUnfound
   lookup-due =
       ⊎-elim
       (λ found.

@@ -2,6 +2,7 @@
 -- know a section through this alone, and it is what does not depend on the order in which a section lists its functions.
 use Prim.Native.Nat.{ℕ}
 use Rattle.section.specs.declared.row.Row.{Row}
+use Rattle.lookup.specs.Numbers.{noFunction, dispute, noRow, numberOfUnfound}
 use Rattle.lookup.specs.declared.answer.Outcome.{Outcome}
 use Rattle.lookup.specs.declared.answer.Outcome.the-variants.{Found, Unsound, NoFunction, Dispute, NoRow}
 
@@ -12,6 +13,6 @@ pub data Finding : Type 0 where
 unfoldable pub findingOf : Outcome → Finding
 findingOf (Found row function number) = finds row number
 findingOf (Unsound number index) = refuses number
-findingOf NoFunction = refuses 21
-findingOf (Dispute first second) = refuses 22
-findingOf (NoRow function) = refuses 23
+findingOf NoFunction = refuses (numberOfUnfound noFunction)
+findingOf (Dispute first second) = refuses (numberOfUnfound dispute)
+findingOf (NoRow function) = refuses (numberOfUnfound noRow)

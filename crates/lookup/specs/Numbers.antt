@@ -31,13 +31,13 @@ numberOfLookupCause (unfound why) = numberOfUnfound why
 
 -- ---- answers
 
--- 0 where a row was found
+-- 0 where a row was found, else the number of the cause
 unfoldable pub outcomeNumber : Outcome → ℕ
 outcomeNumber (Found row function number) = 0
 outcomeNumber (Unsound number index) = number
-outcomeNumber NoFunction = 21
-outcomeNumber (Dispute first second) = 22
-outcomeNumber (NoRow function) = 23
+outcomeNumber NoFunction = numberOfUnfound noFunction
+outcomeNumber (Dispute first second) = numberOfUnfound dispute
+outcomeNumber (NoRow function) = numberOfUnfound noRow
 
 -- the indexes, in document 01's order
 unfoldable pub outcomeIndexes : Outcome → List ℕ

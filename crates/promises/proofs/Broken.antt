@@ -122,7 +122,7 @@ module _ (calls : Calls) where
       omega arith
 
   pub always-21-breaks-2 : Always21 calls → ¬ Demand2 calls
-  unfolding outcomeNumber
+  unfolding outcomeNumber numberOfUnfound
   always-21-breaks-2 always demand =
       let found = finds-as-ours calls demand sectionS table-K1 0x400000 0x401003 ∙ ap (λ a. a .outcome) table-K4 in
       let z : _≡_ {A = ℕ} 0 21 = sym (ap outcomeNumber found) ∙ always sectionS 0x400000 0x401003 in
@@ -221,7 +221,7 @@ unfolding findingOneRow
 finding-one-row-finds row s address pc found i k is = cc
 
 pub answering-21-always : Always21 answering21
-unfolding answering21 outcomeNumber
+unfolding answering21 outcomeNumber numberOfUnfound
 answering-21-always s address pc = refl
 
 pub counting-by-counts : (count : List ℕ → ℕ) → MadeUpCount (countingBy count) count

@@ -19,6 +19,7 @@ use Rattle.section.specs.Shape.{abiOf, shape}
 use Rattle.section.specs.declared.row.Row.{Row}
 use Rattle.lookup.specs.Finding.{Finding, finds, refuses, findingOf}
 use Rattle.lookup.specs.Halving.{emptyFunction}
+use Rattle.lookup.specs.Numbers.{numberOfUnfound}
 use Rattle.lookup.specs.computed.Answers.{withRow, withCover, outcome, answer, answerOf, lookIn}
 use Rattle.lookup.specs.computed.Covering.{covers, coveringFrom, covering, coverOf}
 use Rattle.lookup.specs.computed.Rows.{rowFor}
@@ -52,7 +53,7 @@ findingAmong d (f ∷ g ∷ more) = refuses 22
 
 -- the index is no part of a finding
 no-index : (i j : ℕ) (scan : Scan) → findingOf (withRow i scan) ≡ findingOf (withRow j scan)
-unfolding findingOf withRow
+unfolding findingOf numberOfUnfound withRow
 no-index i j Missed = refl
 no-index i j (Hit row number) = refl
 
@@ -60,7 +61,7 @@ module _ (d : ℤ) (all : List Function) where
   -- function i covers, and then those of the rest that do
   one-found : (i from : ℕ) (fs : List Function)
       → findingOf (withCover d all (coverOf (i ∷ coveringFrom d from fs))) ≡ findingAmong d (getD all i emptyFunction ∷ coveringFunctions d fs)
-  unfolding findingOf withCover coverOf coveringFrom findingAmong
+  unfolding findingOf numberOfUnfound withCover coverOf coveringFrom findingAmong
   one-found i from [] = no-index i 0 (rowFor d (getD all i emptyFunction))
   one-found i from (f ∷ fs) =
       by-value (covers d f)
@@ -70,7 +71,7 @@ module _ (d : ℤ) (all : List Function) where
   -- fs is what stands in the list from index `from` on
   found-from : (from : ℕ) (fs : List Function) → ((k : ℕ) → getD all (from + k) emptyFunction ≡ getD fs k emptyFunction)
       → findingOf (withCover d all (coverOf (coveringFrom d from fs))) ≡ findingAmong d (coveringFunctions d fs)
-  unfolding findingOf withCover coverOf coveringFrom findingAmong
+  unfolding findingOf numberOfUnfound withCover coverOf coveringFrom findingAmong
   found-from from [] stands = refl
   found-from from (f ∷ fs) stands =
       by-value (covers d f)

@@ -20,7 +20,7 @@ use Rattle.accept.specs.computed.Checks.{verdict}
 use Rattle.accept.specs.declared.verdict.Verdict.{Verdict}
 use Rattle.accept.specs.declared.verdict.Verdict.the-variants as verdict
 use Rattle.accept.proofs.Exactly.{verdict-number, number-of-rule}
-use Rattle.lookup.specs.Numbers.{outcomeNumber, outcomeIndexes, outcomeRow}
+use Rattle.lookup.specs.Numbers.{numberOfUnfound, outcomeNumber, outcomeIndexes, outcomeRow}
 use Rattle.lookup.specs.computed.Answers.{lookupOf}
 use Rattle.lookup.specs.declared.answer.Answer.{Answer}
 use Rattle.lookup.specs.declared.answer.Outcome.{Outcome}
@@ -37,7 +37,7 @@ use Rattle.caller.proofs.Exactly.{step-exactly-when}
 use Rattle.caller.proofs.NumberLaws.{number-of-refusal}
 use Rattle.trace.specs.Cases as traces
 use Rattle.trace.specs.Frames.{TraceReply, tracedAs}
-use Rattle.trace.specs.Numbers.{endingNumber, endingIndexes}
+use Rattle.trace.specs.Numbers.{numberOfTraceCause, endingNumber, endingIndexes}
 use Rattle.trace.specs.computed.Trace.{walkIn, traceOf, traced}
 use Rattle.trace.specs.declared.answer.Ending.{Ending}
 use Rattle.trace.specs.declared.answer.Ending.the-variants as ending
@@ -88,7 +88,7 @@ read-row number function second compared k row i =
 -- ---- lookups
 
 read-outcome : (o : Outcome) (compared : ℕ) → OutcomeNumbered o → readOutcome (flatAnswer (record { outcome = o; compared = compared })) ≡ o
-unfolding readOutcome flatAnswer flatRow outcomeNumber outcomeIndexes outcomeRow
+unfolding readOutcome flatAnswer flatRow outcomeNumber numberOfUnfound outcomeIndexes outcomeRow
 read-outcome (outcome.Found row function number) compared numbered =
     ap (λ read. outcome.Found read function number) (read-row 0 function 0 compared number row)
 read-outcome (outcome.Unsound number index) compared numbered =
@@ -122,7 +122,7 @@ not-doors number most =
     rw (ne-eqb number 41 λ is. omega (arith, is), ne-eqb number 42 λ is. omega (arith, is), ne-eqb number 43 λ is. omega (arith, is))
 
 read-ending : (e : Ending) → EndingNumbered e → readEnding (endingNumber e) (getD (endingIndexes e) 0 0) ≡ e
-unfolding readEnding isDoors endingNumber endingIndexes
+unfolding readEnding isDoors endingNumber numberOfTraceCause endingIndexes
 read-ending ending.Outermost numbered = refl
 read-ending ending.Full numbered = refl
 read-ending (ending.Refused number) numbered =
@@ -175,7 +175,7 @@ module _ (s stack : List ℕ) (lies : Where) (registers : Registers) where
       by (step.Refused old number) (same, inr (refusal, is, on)) = omega (arith, is, number-of-refusal refusal)
 
   trace-numbered : (limit : ℕ) (old : List ℕ) → EndingNumbered (traceOf s stack lies registers limit old .answer .ending)
-  unfolding traceOf traced tracedAs
+  unfolding traceOf traced tracedAs numberOfTraceCause numberOfStepCause
   trace-numbered limit old =
       let walk = walkIn s stack lies registers limit (length old) in
       by (walk .frames) (walk .ending) (some-case s stack lies registers limit old)

@@ -19,10 +19,12 @@ use Rattle.accept.proofs.Decides.{not-below, at-most, unless}
 use Rattle.accept.proofs.FaultLaws.{Table, end, line, FirstBroken, table-sound, table-breaks}
 use Rattle.lookup.proofs.CoveringLaws.{by-value}
 use Rattle.caller.specs.Cases.{Rule41}
+use Rattle.caller.specs.Numbers.{numberOfStepCause}
 use Rattle.caller.specs.declared.registers.Registers.{Registers}
 use Rattle.caller.specs.declared.registers.Where.{Where}
 use Rattle.trace.specs.Cases.{LimitAbove, TooFewWords, AtDoor, DoorOpen}
 use Rattle.trace.specs.Frames.{inForce, withMark, allWords, over, tracedAs}
+use Rattle.trace.specs.Numbers.{numberOfTraceCause}
 use Rattle.trace.specs.computed.Trace.{ended, checkedWalk, doorTests, doorFault, afterDoor, walkAfter, walkIn, traced, traceOf}
 use Rattle.trace.specs.declared.answer.Ending.the-variants.{Shut, Unsound}
 
@@ -76,7 +78,7 @@ module _ (stack : List ℕ) (lies : Where) (limit : ℕ) (buffer : List ℕ) whe
       )
 
   broken-at : (number : ℕ) → FirstBroken tests rules number ↔ AtDoor stack lies limit buffer number
-  unfolding doorTests
+  unfolding doorTests numberOfTraceCause numberOfStepCause
   broken-at number = (
     ⊎-elim
         (λ h. inl (h .0, omega arith))
@@ -96,21 +98,25 @@ module _ (stack : List ℕ) (lies : Where) (limit : ℕ) (buffer : List ℕ) whe
 
   -- one number at a time
   pub door-41 : AtDoor stack lies limit buffer 41 ↔ Rule41 stack lies
+  unfolding numberOfTraceCause numberOfStepCause
   door-41 = (⊎-elim (λ h. h .1) (⊎-elim (λ h. absurd (omega arith)) (λ h. absurd (omega arith))), λ h. inl (refl, h))
 
   pub door-42 : AtDoor stack lies limit buffer 42 ↔ ((¬ Rule41 stack lies) × LimitAbove limit)
+  unfolding numberOfTraceCause numberOfStepCause
   door-42 = (
     ⊎-elim (λ h. absurd (omega arith)) (⊎-elim (λ h. (h .1, h .2)) (λ h. absurd (omega arith))),
     λ h. inr (inl (refl, h .0, h .1)),
   )
 
   pub door-43 : AtDoor stack lies limit buffer 43 ↔ ((¬ Rule41 stack lies) × (¬ LimitAbove limit) × TooFewWords limit buffer)
+  unfolding numberOfTraceCause numberOfStepCause
   door-43 = (
     ⊎-elim (λ h. absurd (omega arith)) (⊎-elim (λ h. absurd (omega arith)) (λ h. (h .1, h .2, h .3))),
     λ h. inr (inr (refl, h .0, h .1, h .2)),
   )
 
   pub door-number : (number : ℕ) → AtDoor stack lies limit buffer number → (41 ≤ number) × (number ≤ 43)
+  unfolding numberOfTraceCause numberOfStepCause
   door-number number = ⊎-elim (λ h. omega arith) (⊎-elim (λ h. omega arith) (λ h. omega arith))
 
   pub not-open : (number : ℕ) → AtDoor stack lies limit buffer number → ¬ DoorOpen stack lies limit buffer

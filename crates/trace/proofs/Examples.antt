@@ -14,7 +14,7 @@ use Rattle.caller.specs.declared.registers.Step.the-variants as stepped
 use Rattle.caller.specs.declared.registers.Where.{Where}
 use Rattle.trace.specs.Cases.{noFrame, EndsOutermost, WalkMade}
 use Rattle.trace.specs.Frames.{TraceReply, inForce, frameOf, withMark, allWords, over, tracedAs}
-use Rattle.trace.specs.Numbers.{endingNumber}
+use Rattle.trace.specs.Numbers.{numberOfTraceCause, endingNumber}
 use Rattle.trace.specs.computed.Trace.{Walk, ended, withFrame, unlessOutermost, onward, walkOf, doorFault, afterDoor, walkAfter, traced, traceOf}
 use Rattle.trace.specs.inner.Opened.{traceOpened}
 use Rattle.trace.specs.declared.answer.Ending.the-variants.{Outermost, Full, Refused, Shut, Unsound}
@@ -44,7 +44,7 @@ K10 lr first a b c d e f = refl
 -- so the case of 30 in specs/Cases holds here
 K10-case : (lr first a b c d e f : ℕ)
     → (frames : List Frame) × WalkMade sectionS stack lies (registers lr first) 2 (a ∷ b ∷ c ∷ d ∷ e ∷ f ∷ []) frames (EndsOutermost 2)
-unfolding tracedAs endingNumber inForce
+unfolding tracedAs endingNumber numberOfTraceCause inForce
 K10-case lr first a b c d e f =
     number-30-exactly-when sectionS stack lies (registers lr first) 2 (a ∷ b ∷ c ∷ d ∷ e ∷ f ∷ []) .0
     (ap (λ t. endingNumber (t .answer .ending)) (K10 lr first a b c d e f))

@@ -13,7 +13,7 @@ use Rattle.caller.specs.Numbers.{Refusal, numberOfRefusal}
 use Rattle.caller.specs.declared.registers.Registers.{Registers}
 use Rattle.caller.specs.declared.registers.Where.{Where}
 use Rattle.trace.specs.Frames.{inForce, frameOf, withMark}
-use Rattle.trace.specs.Numbers.{TraceCause, window, limitAbove, tooFewWords, unsound, refused, outermost, full}
+use Rattle.trace.specs.Numbers.{TraceCause, window, limitAbove, tooFewWords, unsound, refused, outermost, full, numberOfTraceCause}
 use Rattle.trace.specs.declared.answer.Ending.{Ending}
 use Rattle.trace.specs.declared.answer.Ending.the-variants.{Outermost, Full, Refused, Shut, Unsound}
 use Rattle.trace.specs.declared.answer.Frame.{Frame}
@@ -33,9 +33,9 @@ TooFewWords limit buffer = length buffer < 3 * inForce limit
 -- a number is given at the door where its rule holds and no earlier one does
 abbrev pub AtDoor : List ℕ → Where → ℕ → List ℕ → ℕ → Type 0
 AtDoor stack lies limit buffer number =
-    ((number ≡ 41) × Rule41 stack lies)
-    ⊎ (((number ≡ 42) × (¬ Rule41 stack lies) × LimitAbove limit)
-    ⊎ ((number ≡ 43) × (¬ Rule41 stack lies) × (¬ LimitAbove limit) × TooFewWords limit buffer))
+    ((number ≡ numberOfTraceCause window) × Rule41 stack lies)
+    ⊎ (((number ≡ numberOfTraceCause limitAbove) × (¬ Rule41 stack lies) × LimitAbove limit)
+    ⊎ ((number ≡ numberOfTraceCause tooFewWords) × (¬ Rule41 stack lies) × (¬ LimitAbove limit) × TooFewWords limit buffer))
 
 -- none of the three
 pub record DoorOpen (stack : List ℕ) (lies : Where) (limit : ℕ) (buffer : List ℕ) : Type 0 where

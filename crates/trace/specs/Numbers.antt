@@ -33,8 +33,8 @@ numberOfTraceCause full = 31
 -- ---- endings
 
 unfoldable pub endingNumber : Ending → ℕ
-endingNumber Outermost = 30
-endingNumber Full = 31
+endingNumber Outermost = numberOfTraceCause outermost
+endingNumber Full = numberOfTraceCause full
 endingNumber (Refused number) = number
 endingNumber (Shut number) = number
 endingNumber (Unsound number index) = number
