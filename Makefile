@@ -60,6 +60,8 @@ soak: lib
 bench: lib
 	@said=$$(rt staticlib measure 2>&1) || { echo "$$said"; exit 1; }
 	@$(call for_tests,measure)
+	@said=$$(rt staticlib measure_lines 2>&1) || { echo "$$said"; exit 1; }
+	@$(call for_tests,measure_lines)
 	cd tests && cargo run --quiet --release --offline --locked --features library,measure --bin bench
 
 cases:

@@ -1,10 +1,12 @@
 /* Suntimpani: reads `.sframe` unwind tables and walks a crashed program's stack, with every answer proved.
  *
  * You lend it the bytes of an `.sframe` section (SFrame version 2 with errata 1; AMD64, and AArch64 in both byte
- * orders), registers, a stack window and a buffer. It says whether the section is sound (suntimpani_check), which
- * function and row cover a PC (suntimpani_lookup), what one caller's registers are (suntimpani_caller), and what the
- * whole trace is (suntimpani_trace). Any bytes and any numbers may be handed in: nothing outside what is lent is read,
- * every call ends, and an answer that cannot be given is a refusal with a number and a rule.
+ * orders), registers, a stack window and a buffer. It says whether the section is sound (suntimpani_check), where the
+ * function with an index lies (suntimpani_function_at) and what its rows are, one by one (suntimpani_rows_of,
+ * suntimpani_next_row), which function and row cover a PC (suntimpani_lookup), what one caller's registers are
+ * (suntimpani_caller), and what the whole trace is (suntimpani_trace). Any bytes and any numbers may be handed in:
+ * nothing outside what is lent is read, every call ends, and an answer that cannot be given is a refusal with a number
+ * and a rule.
  *
  *     cc program.c -lsuntimpani
  *
@@ -13,7 +15,7 @@
  *
  * What is lent
  *
- * Nothing is allocated, nothing is kept after a call returns, and there is no state. So all four functions may be
+ * Nothing is allocated, nothing is kept after a call returns, and there is no state. So all seven functions may be
  * called in a signal handler, on a small alternate stack, and from several threads at once. What you lend stays yours;
  * only the buffer of suntimpani_trace is written to.
  *
@@ -31,16 +33,20 @@
  *
  * A lookup, a caller and a trace each check the section first, and a trace checks it once. A check reads every row of
  * every function, so its time grows with them. Functions may share rows, so a section that was made to be slow can ask
- * for far more time than its length tells.
+ * for far more time than its length tells. suntimpani_function_at and suntimpani_rows_of make no check: they try rules
+ * 1 to 8 and read one entry. suntimpani_next_row reads one row alone. So the time of these three does not grow with
+ * the section.
  *
  *
  * Numbers
  *
  * Every answer has a number: 0 where what was asked for is given, else the rule that is the first broken one, in this
- * order of trying. "Entry" is a function's entry in the section's function table; indexes count from 0.
+ * order of trying. An index without a function breaks no rule: its number is 0 too, and `known` tells. Rows one by one
+ * have no number: they are told as they stand, and where none can be told there are no more. "Entry" is a function's
+ * entry in the section's function table; indexes count from 0.
  *
- * By all four functions, on the section. 9 to 14 have the index of the entry that breaks the rule; the index of 1 to 8
- * and of 15 is 0.
+ * By check, lookup, caller and trace, on the section; 1 to 8, on its header, by suntimpani_function_at too.
+ * 9 to 14 have the index of the entry that breaks the rule; the index of 1 to 8 and of 15 is 0.
  *
  *      1  the section has fewer than 28 bytes
  *      2  it has more than 16,777,216 bytes
@@ -102,7 +108,7 @@
 #include <stdint.h>
 
 /* The version of this header and of the archive beside it. */
-#define SUNTIMPANI_VERSION "0.1.1"
+#define SUNTIMPANI_VERSION "0.2.0"
 
 #ifdef __cplusplus
 extern "C" {
@@ -113,6 +119,40 @@ typedef struct {
     uint64_t number; /* 0: accepted; or 1 to 15 */
     uint64_t index;  /* the entry's index for 9 to 14; otherwise 0 */
 } suntimpani_verdict;
+
+/* What is said of a function by its index. Where `known` is 0, every field but `number` is 0. */
+typedef struct {
+    uint64_t number;   /* 0: the header is sound; or 1 to 8 */
+    uint64_t known;    /* 1 where the section has such a function, otherwise 0 */
+    int64_t start;     /* where it starts, in bytes from the section's first byte; below 0 where it lies before it */
+    uint64_t size;     /* how many bytes it has */
+    uint64_t rows;     /* how many rows it has */
+    uint64_t repeated; /* 1 where its rows are those of a block that is repeated (PCMASK), otherwise 0 */
+    uint64_t repeat;   /* the size of that block; 0 where `repeated` is 0 */
+} suntimpani_function;
+
+/* Where a reader of rows stands. It is taken from suntimpani_rows_of or from the row before; any numbers may be handed
+ * in. */
+typedef struct {
+    uint64_t abi;  /* 1 AArch64, big-endian; 2 AArch64, little-endian; 3 AMD64, as is any other number */
+    uint64_t type; /* a row's start has 1, 2 or 4 bytes for 0, 1 or 2; for any other number there is no row */
+    uint64_t at;   /* where the next row stands, in bytes from the section's first byte */
+    uint64_t left; /* how many rows there are from there on */
+} suntimpani_rows;
+
+/* One row, and where the reader then stands. */
+typedef struct {
+    uint64_t more;  /* 1: a row; 0: there are no more, and every field but `rest` is 0 */
+    uint64_t start; /* from here on as in suntimpani_answer */
+    uint64_t base;
+    int64_t cfa;
+    uint64_t ra_place;
+    int64_t ra;
+    uint64_t fp_place;
+    int64_t fp;
+    uint64_t signed_ra;
+    suntimpani_rows rest; /* past the row; where there are no more, the same with 0 in `left`. Its `abi` is 1, 2 or 3 */
+} suntimpani_row;
 
 /* What a lookup answers. A field that the list does not name for a number is 0.
  *
@@ -167,8 +207,35 @@ typedef struct {
     uint64_t index;  /* the entry's index for 9 to 14; otherwise 0 */
 } suntimpani_traced;
 
-/* Is the section sound? The other three ask this first by themselves. */
+/* Is the section sound? A lookup, a caller and a trace ask this first by themselves. */
 suntimpani_verdict suntimpani_check(const uint8_t *section, size_t length);
+
+/* The function with an index, as a lookup names it: where to look for its symbol. Its address is that of the section's
+ * first byte plus `start`. Indexes count from 0 in the order of the entries, so that every function is told by counting
+ * up from 0 until `known` is 0.
+ *
+ * Rules 1 to 8 are tried, and one entry is read; nothing else of the section is looked at. So it speaks of the entry as
+ * it stands, also in a section that a check refuses with 9 to 15: there its rows may lie anywhere or not be there, its
+ * start may be out of order, and `repeat` may be 0 with `repeated` 1. */
+suntimpani_function suntimpani_function_at(const uint8_t *section, size_t length, uint64_t index);
+
+/* Where the rows of the function with an index begin, and how many there are. The same is tried and read as by
+ * suntimpani_function_at, and it is told as the entry stands, also in a section that a check refuses with 9 to 15.
+ * Where the header is refused, or there is no such function, `left` is 0, with `abi` 3, `type` 0 and `at` 0.
+ *
+ *     suntimpani_row row = suntimpani_next_row(section, length, suntimpani_rows_of(section, length, index));
+ *     while (row.more) {
+ *         printf("from %" PRIu64 " on CFA is %s%+" PRId64 "\n", row.start, row.base ? "SP" : "FP", row.cfa);
+ *         row = suntimpani_next_row(section, length, row.rest);
+ *     }
+ */
+suntimpani_rows suntimpani_rows_of(const uint8_t *section, size_t length, uint64_t index);
+
+/* The next row, or that there are no more: asked again, it says so again. In a section that is accepted, the rows of a
+ * function come once each, in order. Nothing but the row is looked at, so that a section that is not accepted has rows
+ * too: there they end at the first that does not lie whole in the section, or that breaks rule 12 by offset size 3 or
+ * by a count of 0. */
+suntimpani_row suntimpani_next_row(const uint8_t *section, size_t length, suntimpani_rows rows);
 
 /* The function and the row for a PC, in a section whose first byte lies at `address`. */
 suntimpani_answer suntimpani_lookup(const uint8_t *section, size_t length, uint64_t address, uint64_t pc);

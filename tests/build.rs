@@ -8,6 +8,7 @@ fn main() {
     let folder = env::var_os("SUNTIMPANI_LIB_DIR").map_or_else(usual_folder, PathBuf::from);
     link("CARGO_FEATURE_LIBRARY", &folder, "suntimpani");
     link("CARGO_FEATURE_MEASURE", &folder, "measure");
+    link("CARGO_FEATURE_MEASURE", &folder, "measure_lines");
 }
 
 fn link(feature: &str, folder: &Path, library: &str) {

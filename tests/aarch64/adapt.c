@@ -1,4 +1,4 @@
-/* So that the tests run on an AArch64 machine: the header's four functions, before those of the proved module, which
+/* So that the tests run on an AArch64 machine: the header's seven functions, before those of the proved module, which
  * tests/aarch64/archive compiles with `proved_` before their names.
  *
  * The module was made for x86-64: a struct by value is handed to it as a pointer to one, and a result of more than two
@@ -8,6 +8,7 @@
 #include "suntimpani.h"
 
 _Static_assert(sizeof(suntimpani_where) == 16, "byval 16");
+_Static_assert(sizeof(suntimpani_rows) == 32, "byval 32");
 _Static_assert(sizeof(suntimpani_registers) == 40, "byval 40");
 
 /* Of the module: { i64, i64 } suntimpani_check(ptr, i64) */
@@ -15,6 +16,34 @@ suntimpani_verdict proved_suntimpani_check(const uint8_t *section, size_t length
 
 suntimpani_verdict suntimpani_check(const uint8_t *section, size_t length) {
     return proved_suntimpani_check(section, length);
+}
+
+/* Of the module: ptr suntimpani_function_at(ptr, ptr, i64, i64) */
+void *proved_suntimpani_function_at(suntimpani_function *function, const uint8_t *section, size_t length,
+                                    uint64_t index);
+
+suntimpani_function suntimpani_function_at(const uint8_t *section, size_t length, uint64_t index) {
+    suntimpani_function function;
+    proved_suntimpani_function_at(&function, section, length, index);
+    return function;
+}
+
+/* Of the module: ptr suntimpani_rows_of(ptr, ptr, i64, i64) */
+void *proved_suntimpani_rows_of(suntimpani_rows *rows, const uint8_t *section, size_t length, uint64_t index);
+
+suntimpani_rows suntimpani_rows_of(const uint8_t *section, size_t length, uint64_t index) {
+    suntimpani_rows rows;
+    proved_suntimpani_rows_of(&rows, section, length, index);
+    return rows;
+}
+
+/* Of the module: ptr suntimpani_next_row(ptr, ptr, i64, byval 32) */
+void *proved_suntimpani_next_row(suntimpani_row *row, const uint8_t *section, size_t length, suntimpani_rows *rows);
+
+suntimpani_row suntimpani_next_row(const uint8_t *section, size_t length, suntimpani_rows rows) {
+    suntimpani_row row;
+    proved_suntimpani_next_row(&row, section, length, &rows);
+    return row;
 }
 
 /* Of the module: ptr suntimpani_lookup(ptr, ptr, i64, i64, i64) */

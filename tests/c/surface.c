@@ -1,6 +1,6 @@
-/* The C surface, called from C: the layout of every struct, K1 to K12 of document 01 and its examples on AArch64, every
- * field of every answer and every word of the buffers. Prints 'N comparisons, 0 differences', or each difference and
- * ends with status 1. Compiles as C99 and as C++11. */
+/* The C surface, called from C: the layout of every struct, K1 to K12 of document 01 and its examples on AArch64, the
+ * functions and rows of sections accepted and refused, every field of every answer and every word of the buffers.
+ * Prints 'N comparisons, 0 differences', or each difference and ends with status 1. Compiles as C99 and as C++11. */
 #include <inttypes.h>
 #include <stddef.h>
 #include <stdio.h>
@@ -23,6 +23,36 @@ static void compare(const char *what, const char *field, uint64_t got, uint64_t 
 static void compare_verdicts(const char *what, suntimpani_verdict got, suntimpani_verdict wanted) {
     FIELD(what, got, wanted, number);
     FIELD(what, got, wanted, index);
+}
+
+static void compare_functions(const char *what, suntimpani_function got, suntimpani_function wanted) {
+    FIELD(what, got, wanted, number);
+    FIELD(what, got, wanted, known);
+    FIELD(what, got, wanted, start);
+    FIELD(what, got, wanted, size);
+    FIELD(what, got, wanted, rows);
+    FIELD(what, got, wanted, repeated);
+    FIELD(what, got, wanted, repeat);
+}
+
+static void compare_places(const char *what, suntimpani_rows got, suntimpani_rows wanted) {
+    FIELD(what, got, wanted, abi);
+    FIELD(what, got, wanted, type);
+    FIELD(what, got, wanted, at);
+    FIELD(what, got, wanted, left);
+}
+
+static void compare_rows(const char *what, suntimpani_row got, suntimpani_row wanted) {
+    FIELD(what, got, wanted, more);
+    FIELD(what, got, wanted, start);
+    FIELD(what, got, wanted, base);
+    FIELD(what, got, wanted, cfa);
+    FIELD(what, got, wanted, ra_place);
+    FIELD(what, got, wanted, ra);
+    FIELD(what, got, wanted, fp_place);
+    FIELD(what, got, wanted, fp);
+    FIELD(what, got, wanted, signed_ra);
+    compare_places(what, got.rest, wanted.rest);
 }
 
 static void compare_answers(const char *what, suntimpani_answer got, suntimpani_answer wanted) {
@@ -85,6 +115,36 @@ static void layout_of_answers(void) {
     PLACE(suntimpani_answer, fp_place, 10);
     PLACE(suntimpani_answer, fp, 11);
     PLACE(suntimpani_answer, signed_ra, 12);
+}
+
+static void layout_of_functions(void) {
+    compare("suntimpani_function", "its size", sizeof(suntimpani_function), 7 * 8);
+    PLACE(suntimpani_function, number, 0);
+    PLACE(suntimpani_function, known, 1);
+    PLACE(suntimpani_function, start, 2);
+    PLACE(suntimpani_function, size, 3);
+    PLACE(suntimpani_function, rows, 4);
+    PLACE(suntimpani_function, repeated, 5);
+    PLACE(suntimpani_function, repeat, 6);
+}
+
+static void layout_of_rows(void) {
+    compare("suntimpani_rows", "its size", sizeof(suntimpani_rows), 4 * 8);
+    PLACE(suntimpani_rows, abi, 0);
+    PLACE(suntimpani_rows, type, 1);
+    PLACE(suntimpani_rows, at, 2);
+    PLACE(suntimpani_rows, left, 3);
+    compare("suntimpani_row", "its size", sizeof(suntimpani_row), 13 * 8);
+    PLACE(suntimpani_row, more, 0);
+    PLACE(suntimpani_row, start, 1);
+    PLACE(suntimpani_row, base, 2);
+    PLACE(suntimpani_row, cfa, 3);
+    PLACE(suntimpani_row, ra_place, 4);
+    PLACE(suntimpani_row, ra, 5);
+    PLACE(suntimpani_row, fp_place, 6);
+    PLACE(suntimpani_row, fp, 7);
+    PLACE(suntimpani_row, signed_ra, 8);
+    compare("suntimpani_row", "the place of rest", offsetof(suntimpani_row, rest), 9 * 8);
 }
 
 static void layout_of_the_others(void) {
@@ -161,6 +221,143 @@ static void k8_and_k9(void) {
     compare_answers("K8, a lookup", suntimpani_lookup(overlapping(1), 78, ADDRESS, 0x40101f), unsound);
     compare_verdicts("K9", suntimpani_check(overlapping(0), 78), accepted);
     compare_answers("K9, a lookup", suntimpani_lookup(overlapping(0), 78, ADDRESS, 0x40101f), dispute);
+}
+
+static const suntimpani_function NO_FUNCTION = {0, 0, 0, 0, 0, 0, 0};
+
+static void functions_of_s(void) {
+    const suntimpani_function first = {0, 1, 0x1000, 0x20, 2, 0, 0}, second = {0, 1, 0x1040, 0x10, 1, 0, 0};
+    const suntimpani_function is_short = {1, 0, 0, 0, 0, 0, 0}, sizes = {8, 0, 0, 0, 0, 0, 0};
+    compare_functions("function 0 of S", suntimpani_function_at(S, 78, 0), first);
+    compare_functions("function 1 of S", suntimpani_function_at(S, 78, 1), second);
+    compare_functions("past the last of S", suntimpani_function_at(S, 78, 2), NO_FUNCTION);
+    compare_functions("index 2^32 of S", suntimpani_function_at(S, 78, UINT64_C(1) << 32), NO_FUNCTION);
+    compare_functions("the highest index of S", suntimpani_function_at(S, 78, UINT64_MAX), NO_FUNCTION);
+    compare_functions("function 0 in 27 bytes", suntimpani_function_at(S, 27, 0), is_short);
+    compare_functions("function 0 in 77 bytes", suntimpani_function_at(S, 77, 0), sizes);
+}
+
+/* S with another byte. */
+static const uint8_t *changed(size_t at, uint8_t byte) {
+    static uint8_t section[sizeof S];
+    memcpy(section, S, sizeof S);
+    section[at] = byte;
+    return section;
+}
+
+/* Accepted sections: repeated blocks, and a start before the section that counts from its own field, the 29th byte. */
+static void functions_of_other_forms(void) {
+    static uint8_t repeated[sizeof S], relative[sizeof S];
+    const suntimpani_verdict accepted = {0, 0};
+    const suntimpani_function blocks = {0, 1, 0x1000, 0x20, 2, 1, 16}, before = {0, 1, 28 - 0xf000, 0x20, 2, 0, 0};
+    memcpy(repeated, S, sizeof S);
+    repeated[44] = 0x10;
+    repeated[45] = 16;
+    memcpy(relative, S, sizeof S);
+    relative[3] = 4;
+    memset(relative + 30, 0xff, 2);
+    compare_verdicts("repeated blocks, a check", suntimpani_check(repeated, 78), accepted);
+    compare_functions("repeated blocks", suntimpani_function_at(repeated, 78, 0), blocks);
+    compare_verdicts("a relative start, a check", suntimpani_check(relative, 78), accepted);
+    compare_functions("a relative start", suntimpani_function_at(relative, 78, 0), before);
+    compare_functions("a plain block with a repeat size", suntimpani_function_at(changed(45, 16), 78, 0),
+                      suntimpani_function_at(S, 78, 0));
+}
+
+/* Sections that a check refuses with 9 to 15: each entry is told as it stands. */
+static void functions_of_refused_sections(void) {
+    const suntimpani_verdict info = {9, 0}, repeat = {10, 0}, rows = {11, 0}, rising = {13, 0}, order = {14, 1};
+    const suntimpani_verdict sum = {15, 0};
+    const suntimpani_function first = {0, 1, 0x1000, 0x20, 2, 0, 0}, no_repeat = {0, 1, 0x1000, 0x20, 2, 1, 0};
+    const suntimpani_function many_rows = {0, 1, 0x1000, 0x20, 0xff000002, 0, 0}, low = {0, 1, 0x101f, 0x10, 1, 0, 0};
+    compare_verdicts("9, a check", suntimpani_check(changed(44, 0xcf), 78), info);
+    compare_functions("9", suntimpani_function_at(changed(44, 0xcf), 78, 0), first);
+    compare_verdicts("10, a check", suntimpani_check(changed(44, 0x10), 78), repeat);
+    compare_functions("10", suntimpani_function_at(changed(44, 0x10), 78, 0), no_repeat);
+    compare_verdicts("11, a check", suntimpani_check(changed(39, 0xff), 78), rows);
+    compare_functions("11", suntimpani_function_at(changed(39, 0xff), 78, 0), first);
+    compare_verdicts("13, a check", suntimpani_check(changed(43, 0xff), 78), rising);
+    compare_functions("13", suntimpani_function_at(changed(43, 0xff), 78, 0), many_rows);
+    compare_verdicts("14, a check", suntimpani_check(overlapping(1), 78), order);
+    compare_functions("14", suntimpani_function_at(overlapping(1), 78, 1), low);
+    compare_verdicts("15, a check", suntimpani_check(changed(12, 4), 78), sum);
+    compare_functions("15", suntimpani_function_at(changed(12, 4), 78, 0), first);
+    compare_functions("15, past the last", suntimpani_function_at(changed(12, 4), 78, 2), NO_FUNCTION);
+}
+
+/* The rows of both functions of S, and that there are no more, twice; and no row where there is no function. */
+static void rows_of_s(void) {
+    const suntimpani_rows first = {3, 0, 68, 2}, second = {3, 0, 75, 1}, none = {3, 0, 0, 0};
+    const suntimpani_row entered = {1, 0, 1, 8, 1, -8, 0, 0, 0, {3, 0, 71, 1}};
+    const suntimpani_row framed = {1, 4, 0, 16, 1, -8, 1, -16, 0, {3, 0, 75, 0}};
+    const suntimpani_row only = {1, 0, 1, 8, 1, -8, 0, 0, 0, {3, 0, 78, 0}};
+    const suntimpani_row past_framed = {0, 0, 0, 0, 0, 0, 0, 0, 0, {3, 0, 75, 0}};
+    const suntimpani_row past_only = {0, 0, 0, 0, 0, 0, 0, 0, 0, {3, 0, 78, 0}};
+    const suntimpani_row nothing = {0, 0, 0, 0, 0, 0, 0, 0, 0, {3, 0, 0, 0}};
+    compare_places("the rows of function 0 of S", suntimpani_rows_of(S, 78, 0), first);
+    compare_rows("row 0 of function 0", suntimpani_next_row(S, 78, first), entered);
+    compare_rows("row 1 of function 0", suntimpani_next_row(S, 78, entered.rest), framed);
+    compare_rows("no more in function 0", suntimpani_next_row(S, 78, framed.rest), past_framed);
+    compare_rows("again no more in function 0", suntimpani_next_row(S, 78, past_framed.rest), past_framed);
+    compare_places("the rows of function 1 of S", suntimpani_rows_of(S, 78, 1), second);
+    compare_rows("row 0 of function 1", suntimpani_next_row(S, 78, second), only);
+    compare_rows("no more in function 1", suntimpani_next_row(S, 78, only.rest), past_only);
+    compare_rows("again no more in function 1", suntimpani_next_row(S, 78, past_only.rest), past_only);
+    compare_places("the rows past the last of S", suntimpani_rows_of(S, 78, 2), none);
+    compare_places("the rows of the highest index of S", suntimpani_rows_of(S, 78, UINT64_MAX), none);
+    compare_places("the rows of function 0 in 77 bytes", suntimpani_rows_of(S, 77, 0), none);
+    compare_rows("no row where there is no function", suntimpani_next_row(S, 78, none), nothing);
+}
+
+/* Places that no call gave: S's row of 4 bytes by each ABI, and numbers that name no row. */
+static void rows_of_any_numbers(void) {
+    const suntimpani_rows big = {1, 0, 71, 9}, little = {2, 0, 71, 9}, unknown = {UINT64_MAX, 0, 71, 9};
+    const suntimpani_rows wide = {3, 2, 71, 9}, no_type = {3, 3, 71, 9}, high_type = {3, UINT64_MAX, 71, 9};
+    const suntimpani_rows inside = {3, 0, 76, 9}, at_end = {3, 0, 78, 9}, far = {2, 1, UINT64_MAX, UINT64_MAX};
+    const suntimpani_rows many = {3, 0, 68, UINT64_MAX};
+    const suntimpani_row by_big = {1, 4, 0, 16, 1, -16, 0, 0, 0, {1, 0, 75, 8}};
+    const suntimpani_row by_little = {1, 4, 0, 16, 1, -16, 0, 0, 0, {2, 0, 75, 8}};
+    const suntimpani_row by_amd64 = {1, 4, 0, 16, 1, -8, 1, -16, 0, {3, 0, 75, 8}};
+    const suntimpani_row of_many = {1, 0, 1, 8, 1, -8, 0, 0, 0, {3, 0, 71, UINT64_MAX - 1}};
+    suntimpani_row none = {0, 0, 0, 0, 0, 0, 0, 0, 0, {3, 2, 71, 0}};
+    compare_rows("by ABI 1", suntimpani_next_row(S, 78, big), by_big);
+    compare_rows("by ABI 2", suntimpani_next_row(S, 78, little), by_little);
+    compare_rows("by an ABI that there is not", suntimpani_next_row(S, 78, unknown), by_amd64);
+    compare_rows("of 2^64 - 1 rows", suntimpani_next_row(S, 78, many), of_many);
+    compare_rows("an info of 0", suntimpani_next_row(S, 78, wide), none);
+    none.rest.type = 3;
+    compare_rows("row type 3", suntimpani_next_row(S, 78, no_type), none);
+    none.rest.type = UINT64_MAX;
+    compare_rows("row type 2^64 - 1", suntimpani_next_row(S, 78, high_type), none);
+    none.rest.type = 0;
+    none.rest.at = 76;
+    compare_rows("a row that ends past the section", suntimpani_next_row(S, 78, inside), none);
+    none.rest.at = 78;
+    compare_rows("at the section's end", suntimpani_next_row(S, 78, at_end), none);
+    none.rest = far;
+    none.rest.left = 0;
+    compare_rows("at 2^64 - 1", suntimpani_next_row(S, 78, far), none);
+}
+
+/* Sections that a check refuses: rows are told as they stand, up to the first that is not whole. */
+static void rows_of_refused_sections(void) {
+    const suntimpani_verdict outside = {11, 0}, info = {12, 0};
+    const suntimpani_rows far = {3, 0, UINT64_C(68) + 0xff000000, 2}, first = {3, 0, 68, 2};
+    const suntimpani_row none = {0, 0, 0, 0, 0, 0, 0, 0, 0, {3, 0, UINT64_C(68) + 0xff000000, 0}};
+    const suntimpani_row entered = {1, 0, 1, 8, 1, -8, 0, 0, 0, {3, 0, 71, 1}};
+    const suntimpani_row ended = {0, 0, 0, 0, 0, 0, 0, 0, 0, {3, 0, 71, 0}};
+    const suntimpani_row three = {1, 4, 0, 16, 1, -8, 1, -16, 0, {3, 0, 76, 0}};
+    compare_verdicts("11, a check", suntimpani_check(changed(39, 0xff), 78), outside);
+    compare_places("11, the rows", suntimpani_rows_of(changed(39, 0xff), 78, 0), far);
+    compare_rows("11, a row", suntimpani_next_row(changed(39, 0xff), 78, far), none);
+    compare_verdicts("12, a check", suntimpani_check(changed(72, 0), 78), info);
+    compare_places("12, the rows", suntimpani_rows_of(changed(72, 0), 78, 0), first);
+    compare_rows("12, a row before", suntimpani_next_row(changed(72, 0), 78, first), entered);
+    compare_rows("12, no offsets", suntimpani_next_row(changed(72, 0), 78, entered.rest), ended);
+    compare_rows("12, offset size 3", suntimpani_next_row(changed(72, 0x64), 78, entered.rest), ended);
+    compare_rows("12, three offsets on AMD64", suntimpani_next_row(changed(72, 0x06), 78, entered.rest), three);
+    compare_rows("12, more offsets than there are bytes", suntimpani_next_row(changed(72, 0x1e), 78, entered.rest),
+                 ended);
 }
 
 /* "PC 0x401044, SP 0x7000, FP 0x7030; stack at 0x7000, 64 bytes, all zero but the word 0x401008 at 0x7000". */
@@ -245,8 +442,14 @@ static void null_pointers(void) {
     const suntimpani_step refused = {{0x401044, 0x7000, 0x7030, 0x5555, 1}, 1, 0};
     const suntimpani_step outside = {{0x401044, 0x7000, 0x7030, 0x5555, 1}, 28, 0};
     const suntimpani_traced no_room = {0, 43, 0}, no_section = {0, 1, 0}, no_stack = {0, 28, 0};
+    const suntimpani_function none = {1, 0, 0, 0, 0, 0, 0};
+    const suntimpani_rows no_rows = {3, 0, 0, 0}, rows = {3, 0, 0, 1};
+    const suntimpani_row no_row = {0, 0, 0, 0, 0, 0, 0, 0, 0, {3, 0, 0, 0}};
     uint64_t buffer[6];
     compare_verdicts("no section", suntimpani_check(NULL, 0), is_short);
+    compare_functions("no section, a function", suntimpani_function_at(NULL, 0, 0), none);
+    compare_places("no section, the rows", suntimpani_rows_of(NULL, 0, 0), no_rows);
+    compare_rows("no section, a row", suntimpani_next_row(NULL, 0, rows), no_row);
     compare_answers("no section, a lookup", suntimpani_lookup(NULL, 0, ADDRESS, 0x401003), unsound);
     compare_steps("no section, a step", suntimpani_caller(NULL, 0, NULL, 0, LIES, START), refused);
     compare_steps("no stack, a step", suntimpani_caller(S, 78, NULL, 0, LIES, START), outside);
@@ -258,10 +461,18 @@ static void null_pointers(void) {
 int main(void) {
     version();
     layout_of_answers();
+    layout_of_functions();
+    layout_of_rows();
     layout_of_the_others();
     k1_to_k3();
     k4_to_k7();
     k8_and_k9();
+    functions_of_s();
+    functions_of_other_forms();
+    functions_of_refused_sections();
+    rows_of_s();
+    rows_of_any_numbers();
+    rows_of_refused_sections();
     k10_to_k12();
     steps();
     examples_on_aarch64();

@@ -39,7 +39,7 @@ pub use document::S;
 pub use questions::Question;
 
 use crate::maker::{Function, Machine, Row, Section, SORTED};
-use crate::reader::Verdict;
+use crate::reader::{Header, Verdict};
 use crate::ADDRESS;
 use questions::{at_edges, section_refused};
 use std::collections::{BTreeMap, BTreeSet};
@@ -70,6 +70,15 @@ impl Case {
         self.walks.extend(walks);
         self
     }
+}
+
+/// The indexes at which a section is asked for its functions: the first three, the last two, those behind them, and
+/// some that only fewer bits would take for one of these.
+pub fn indexes(section: &[u8]) -> BTreeSet<u64> {
+    let count = Header::read(section).map_or(0, |header| u64::from(header.functions));
+    let near = [0, 1, 2, count.saturating_sub(2), count.saturating_sub(1), count, count + 1];
+    let far = [1 << 32, (1 << 32) + 1, 1 << 63, u64::MAX];
+    near.into_iter().chain(far).collect()
 }
 
 const ACCEPTED: Verdict = Verdict::Accepted;

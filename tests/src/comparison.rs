@@ -6,13 +6,13 @@
 
 mod counts;
 
-pub use counts::{Call, Counts};
+pub use counts::{Call, Counts, NONE};
 
 use crate::cases::Case;
 use crate::guarded::{Guarded, Side};
 use crate::library::{self, LIBRARY};
-use crate::reader::{self, Answer, Verdict};
-use crate::stream::{turn, Turn};
+use crate::reader::{self, Answer, FunctionAt, NextRow, RowsAt, Verdict};
+use crate::stream::{indexes, places, turn, Random, Turn};
 use crate::walk::{lent, Walk, Walked};
 use std::cell::Cell;
 use std::fmt::Debug;
@@ -22,6 +22,12 @@ use std::thread;
 
 /// The longest section that is lent: above 2^32, so that a length of which only 32 bits are looked at shows.
 const MOST_BYTES: usize = (1 << 32) + (1 << 20);
+
+/// The seed of the indexes and places that a case is asked.
+const SEED_OF_CASES: u64 = 20_260_104;
+
+/// The most rows of a function that are read.
+const MOST_ROWS: usize = 50;
 
 /// Memory for all that a call is lent, each part between forbidden pages of its own, and the counts.
 pub struct Comparison {
@@ -34,6 +40,11 @@ pub struct Comparison {
 /// What the reader says of a turn.
 struct Expected {
     verdict: Verdict,
+    functions: Vec<FunctionAt>,
+    /// Of each function where its rows begin, and what is said of them one after the other.
+    rows: Vec<(RowsAt, Vec<NextRow>)>,
+    /// What is said at each place.
+    at_places: Vec<NextRow>,
     answers: Vec<Answer>,
     walked: Vec<Walked>,
 }
@@ -54,11 +65,14 @@ impl Comparison {
 
     /// The same of a case, where first the reader must answer as the case's author states.
     pub fn compare_case(&mut self, case: &Case) -> Result<(), String> {
+        let random = &mut Random::new(SEED_OF_CASES);
         let turn = Turn {
             section: case.section.clone(),
             length: case.section.len(),
             questions: case.questions.iter().map(|question| (question.address, question.pc)).collect(),
             walks: case.walks.iter().map(|(walk, _)| walk.clone()).collect(),
+            indexes: indexes(random, &case.section),
+            places: places(random, &case.section),
         };
         let said = self.by_reader(&turn);
         let answers: Vec<Answer> = case.questions.iter().map(|question| question.expected).collect();
@@ -72,6 +86,8 @@ impl Comparison {
 
     fn hold_against(&mut self, turn: &Turn, expected: &Expected) -> Result<(), String> {
         for side in Side::BOTH {
+            self.functions_at(side, turn, expected)?;
+            self.rows_at(side, turn, expected)?;
             self.lookups_at(side, turn, expected)?;
             self.walks_at(side, turn, expected)?;
         }
@@ -81,11 +97,47 @@ impl Comparison {
     // The reader reads the memory that the library is lent.
     fn by_reader(&mut self, turn: &Turn) -> Expected {
         let section = self.section.longer_at(Side::Front, &turn.section, turn.length);
+        let checked = reader::Checked::open(section).ok();
         Expected {
             verdict: reader::check(section),
+            functions: turn.indexes.iter().map(|&index| reader::function_at(section, index)).collect(),
+            rows: turn.indexes.iter().map(|&index| rows_by_reader(section, checked.as_ref(), index)).collect(),
+            at_places: turn.places.iter().map(|&place| reader::next_row(section, place)).collect(),
             answers: turn.questions.iter().map(|&(address, pc)| reader::lookup(section, address, pc)).collect(),
             walked: turn.walks.iter().map(|walk| walk.by_reader(section)).collect(),
         }
+    }
+
+    fn functions_at(&mut self, side: Side, turn: &Turn, expected: &Expected) -> Result<(), String> {
+        let section = self.section.longer_at(side, &turn.section, turn.length);
+        for (&index, told) in turn.indexes.iter().zip(&expected.functions) {
+            let by_library = LIBRARY.function_at(section, index);
+            same(by_library, library::Function::of(told), || format!("function {index:x}, {side:?}"))?;
+            let number = if told.number == 0 && !told.known { NONE } else { told.number };
+            self.counts.count(Call::FunctionAt, number);
+        }
+        Ok(())
+    }
+
+    fn rows_at(&mut self, side: Side, turn: &Turn, expected: &Expected) -> Result<(), String> {
+        let section = self.section.longer_at(side, &turn.section, turn.length);
+        for (index, (begin, turns)) in turn.indexes.iter().zip(&expected.rows) {
+            let mut rest = LIBRARY.rows_of(section, *index);
+            same(rest, library::Rows::of(begin), || format!("the rows of {index:x}, {side:?}"))?;
+            self.counts.count(Call::RowsOf, if begin.left == 0 { NONE } else { 0 });
+            for (number, next) in turns.iter().enumerate() {
+                let by_library = LIBRARY.next_row(section, rest);
+                same(by_library, library::Row::of(next), || format!("row {number} of {index:x}, {side:?}"))?;
+                self.counts.count(Call::NextRow, if next.row.is_none() { NONE } else { 0 });
+                rest = by_library.rest;
+            }
+        }
+        for (place, next) in turn.places.iter().zip(&expected.at_places) {
+            let by_library = LIBRARY.next_row(section, library::Rows::of(place));
+            same(by_library, library::Row::of(next), || format!("the row at {place:x?}, {side:?}"))?;
+            self.counts.count(Call::NextRow, if next.row.is_none() { NONE } else { 0 });
+        }
+        Ok(())
     }
 
     fn lookups_at(&mut self, side: Side, turn: &Turn, expected: &Expected) -> Result<(), String> {
@@ -111,6 +163,25 @@ impl Comparison {
         }
         Ok(())
     }
+}
+
+// Where a function's rows begin, and what is said of them: each that is read, and where they end that there are no more,
+// twice. In an accepted section the rows are those of the listing.
+fn rows_by_reader(section: &[u8], checked: Option<&reader::Checked>, index: u64) -> (RowsAt, Vec<NextRow>) {
+    let begin = reader::rows_of(section, index);
+    let mut listed = checked.map(|checked| checked.rows_listed(index));
+    let mut turns = Vec::new();
+    let (mut rest, mut ended) = (begin, 0);
+    while turns.len() < MOST_ROWS && ended < 2 {
+        let mut next = reader::next_row(section, rest);
+        if let Some(listed) = &mut listed {
+            next.row = listed.next();
+        }
+        ended += usize::from(next.row.is_none());
+        rest = next.rest;
+        turns.push(next);
+    }
+    (begin, turns)
 }
 
 // Every field of both answers, and every word of the buffer.

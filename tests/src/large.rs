@@ -116,7 +116,17 @@ pub fn many_functions(count: usize) -> Section {
     section
 }
 
-/// The same functions in another order, without the flag.
+/// Adjoining functions, each with four rows of its own.
+pub fn functions_of_four_rows(count: usize) -> Section {
+    let mut section = Section::new(Machine::Amd64);
+    section.flags = SORTED;
+    let framed = Row { sp_base: false, ..Row::new(4, 0, &[16, -16]) };
+    let rows = [Row::new(0, 0, &[8]), Row::new(1, 0, &[16, -16]), framed, Row::new(31, 0, &[8])];
+    section.functions = (0..count).map(|index| Function::new(start_of(index), 32, 0, rows.to_vec())).collect();
+    section
+}
+
+/// Those of `many_functions` in another order, without the flag.
 pub fn many_functions_unsorted(count: usize) -> Section {
     let mut section = many_functions(count);
     section.flags = 0;
@@ -199,6 +209,13 @@ mod tests {
             assert_eq!((section.len(), check(&section)), (36 + 20 * count, Verdict::Accepted));
         }
         assert_eq!(36 + 20 * 838_859, LIMIT);
+    }
+
+    #[test]
+    fn the_section_of_four_rows_is_sound() {
+        let section = functions_of_four_rows(1_000).bytes();
+        assert_eq!((section.len(), check(&section)), (28 + 34 * 1_000, Verdict::Accepted));
+        assert!(functions(&section).iter().all(|function| function.rows.len() == 4));
     }
 
     #[test]

@@ -6,12 +6,13 @@
 //! questions and walks, `pack` the form in which they are stored, `large` the sections too big to store, `stream` an
 //! endless seeded source of more. `comparison` holds the proved library, called by `library`, against the reader, all
 //! memory being `guarded`. `measured`, `timing`, `painted` and `libsframe` measure both. `words` is what the program
-//! `sframe` prints.
+//! `sframe` prints, and `program` runs it. `dump` is what other tools printed of a section.
 #![deny(unsafe_code)]
 
 pub mod cases;
 #[cfg(feature = "library")]
 pub mod comparison;
+pub mod dump;
 #[cfg(feature = "library")]
 pub mod guarded;
 pub mod laid;
@@ -28,6 +29,7 @@ pub mod pack;
 #[cfg(feature = "library")]
 #[cfg(any(target_arch = "x86_64", target_arch = "aarch64"))]
 pub mod painted;
+pub mod program;
 pub mod reader;
 pub mod stream;
 pub mod timing;

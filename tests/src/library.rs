@@ -12,6 +12,48 @@ struct Verdict {
     index: u64,
 }
 
+/// What `suntimpani_function_at` answers: 0 in every field but the number where there is no such function.
+#[repr(C)]
+#[derive(Clone, Copy, Debug, Default, PartialEq, Eq)]
+pub struct Function {
+    pub number: u64,
+    /// 1 where there is such a function.
+    pub known: u64,
+    pub start: i64,
+    pub size: u64,
+    pub rows: u64,
+    /// 1 for repeated blocks, of the size beside it.
+    pub repeated: u64,
+    pub repeat: u64,
+}
+
+/// Where a reader of rows stands: what `suntimpani_rows_of` answers.
+#[repr(C)]
+#[derive(Clone, Copy, Debug, Default, PartialEq, Eq)]
+pub struct Rows {
+    pub abi: u64,
+    pub row_type: u64,
+    pub at: u64,
+    pub left: u64,
+}
+
+/// What `suntimpani_next_row` answers: 0 in every field but the rest where there are no more.
+#[repr(C)]
+#[derive(Clone, Copy, Debug, Default, PartialEq, Eq)]
+pub struct Row {
+    /// 1 where there is a row.
+    pub more: u64,
+    pub start: u64,
+    pub base: u64,
+    pub cfa: i64,
+    pub ra_place: u64,
+    pub ra: i64,
+    pub fp_place: u64,
+    pub fp: i64,
+    pub signed_ra: u64,
+    pub rest: Rows,
+}
+
 /// What `suntimpani_lookup` answers: document 01's number, 0 for found, and 0 in every field that means nothing then.
 #[repr(C)]
 #[derive(Clone, Copy, Debug, Default, PartialEq, Eq)]
@@ -74,6 +116,9 @@ pub struct Traced {
 
 extern "C" {
     fn suntimpani_check(section: *const u8, length: usize) -> Verdict;
+    fn suntimpani_function_at(section: *const u8, length: usize, index: u64) -> Function;
+    fn suntimpani_rows_of(section: *const u8, length: usize, index: u64) -> Rows;
+    fn suntimpani_next_row(section: *const u8, length: usize, rows: Rows) -> Row;
     fn suntimpani_lookup(section: *const u8, length: usize, address: u64, pc: u64) -> Answer;
     fn suntimpani_caller(
         section: *const u8,
@@ -96,18 +141,28 @@ extern "C" {
     ) -> Traced;
 }
 
-/// Four calls of one form, as a program in C has them.
+/// Seven calls of one form, as a program in C has them.
 #[derive(Clone, Copy)]
 pub struct Calls {
     check: unsafe extern "C" fn(*const u8, usize) -> Verdict,
+    function_at: unsafe extern "C" fn(*const u8, usize, u64) -> Function,
+    rows_of: unsafe extern "C" fn(*const u8, usize, u64) -> Rows,
+    next_row: unsafe extern "C" fn(*const u8, usize, Rows) -> Row,
     lookup: unsafe extern "C" fn(*const u8, usize, u64, u64) -> Answer,
     caller: unsafe extern "C" fn(*const u8, usize, *const u8, usize, Where, Registers) -> Step,
     trace: unsafe extern "C" fn(*const u8, usize, *const u8, usize, Where, Registers, u64, *mut u64, usize) -> Traced,
 }
 
 /// The calls of the proved library.
-pub const LIBRARY: Calls =
-    Calls { check: suntimpani_check, lookup: suntimpani_lookup, caller: suntimpani_caller, trace: suntimpani_trace };
+pub const LIBRARY: Calls = Calls {
+    check: suntimpani_check,
+    function_at: suntimpani_function_at,
+    rows_of: suntimpani_rows_of,
+    next_row: suntimpani_next_row,
+    lookup: suntimpani_lookup,
+    caller: suntimpani_caller,
+    trace: suntimpani_trace,
+};
 
 impl Calls {
     /// The verdict. An accepted section has no entry to name, so that 0 with any index but 0 stays visible.
@@ -119,6 +174,27 @@ impl Calls {
             (0, 0) => reader::Verdict::Accepted,
             (number, index) => reader::Verdict::Refused { number, index },
         }
+    }
+
+    /// What is said of an index, every field as it came.
+    #[inline]
+    pub fn function_at(&self, section: &[u8], index: u64) -> Function {
+        // SAFETY: the pointer and the length are those of a slice, which is lent for the length of the call.
+        unsafe { (self.function_at)(section.as_ptr(), section.len(), index) }
+    }
+
+    /// Where the rows of a function begin, every field as it came.
+    #[inline]
+    pub fn rows_of(&self, section: &[u8], index: u64) -> Rows {
+        // SAFETY: the pointer and the length are those of a slice, which is lent for the length of the call.
+        unsafe { (self.rows_of)(section.as_ptr(), section.len(), index) }
+    }
+
+    /// The next row, every field as it came.
+    #[inline]
+    pub fn next_row(&self, section: &[u8], rows: Rows) -> Row {
+        // SAFETY: the pointer and the length are those of a slice, which is lent for the length of the call.
+        unsafe { (self.next_row)(section.as_ptr(), section.len(), rows) }
     }
 
     /// The answer, every field as it came.
@@ -166,6 +242,32 @@ impl Registers {
     fn of(registers: reader::Registers) -> Registers {
         let reader::Registers { pc, sp, fp, lr, first } = registers;
         Registers { pc, sp, fp, lr, first }
+    }
+}
+
+impl Function {
+    /// What the library must say where the reader says this.
+    pub fn of(told: &reader::FunctionAt) -> Function {
+        let reader::FunctionAt { number, known, start, size, rows, repeated, repeat } = *told;
+        Function { number, known: known.into(), start, size, rows, repeated: repeated.into(), repeat }
+    }
+}
+
+impl Rows {
+    /// The same place, as it is handed in and as the library must tell it.
+    pub fn of(place: &reader::RowsAt) -> Rows {
+        let reader::RowsAt { abi, row_type, at, left } = *place;
+        Rows { abi, row_type, at, left }
+    }
+}
+
+impl Row {
+    /// What the library must answer where the reader answers this.
+    pub fn of(next: &reader::NextRow) -> Row {
+        let rest = Rows::of(&next.rest);
+        let Some(row) = next.row else { return Row { rest, ..Row::default() } };
+        let Answer { start, base, cfa, ra_place, ra, fp_place, fp, signed_ra, .. } = Answer::default().with(&row);
+        Row { more: 1, start, base, cfa, ra_place, ra, fp_place, fp, signed_ra, rest }
     }
 }
 

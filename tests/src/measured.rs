@@ -1,8 +1,8 @@
-//! Many lookups behind one call, by the proved library and by the reader, each folded into a digest so that none can be
-//! left out.
+//! Many lookups behind one call, and whole listings, by the proved library and by the reader, each folded into a digest
+//! so that nothing can be left out.
 #![allow(unsafe_code)]
 
-use crate::reader::{Answer, Base, Checked, Outcome, Place, Row};
+use crate::reader::{Answer, Base, Block, Checked, Line, Outcome, Place, Row};
 
 /// The verdict on the section, number 0 for accepted, and the digest of all answers, 0 where the section is refused.
 #[repr(C)]
@@ -15,6 +15,7 @@ pub struct Measured {
 
 extern "C" {
     fn measure_finds(section: *const u8, length: usize, address: u64, pcs: *const u64, count: usize) -> Measured;
+    fn measure_listing(section: *const u8, length: usize) -> Measured;
 }
 
 /// One check of the section by the library, then its lookups at these PCs.
@@ -35,6 +36,23 @@ pub fn by_reader(section: &[u8], address: u64, pcs: &[u64]) -> Measured {
     }
 }
 
+/// One check of the section by the library, then all its lines.
+pub fn listed_by_library(section: &[u8]) -> Measured {
+    // SAFETY: the pointer and the length are those of a slice, which is lent for the length of the call.
+    unsafe { measure_listing(section.as_ptr(), section.len()) }
+}
+
+/// The same by the reader.
+pub fn listed_by_reader(section: &[u8]) -> Measured {
+    match Checked::open(section) {
+        Err(refusal) => Measured { number: refusal.number, index: refusal.index, digest: 0 },
+        Ok(checked) => {
+            let add = |digest: u32, line| digest.wrapping_mul(31).wrapping_add(weight_of_line(&line) as u32);
+            Measured { number: 0, index: 0, digest: checked.lines().fold(0, add).into() }
+        }
+    }
+}
+
 // A number that hardly stays the same where something else is answered.
 fn weight(answer: &Answer) -> u64 {
     answer.compared
@@ -45,6 +63,19 @@ fn weight(answer: &Answer) -> u64 {
             Outcome::Disputed { first, second } => 22 + first + second,
             Outcome::NoRow { function } => 23 + function,
         }
+}
+
+fn weight_of_line(line: &Line) -> u64 {
+    match line {
+        Line::Function { index, start, size, block } => {
+            let repeat = match block {
+                Block::Plain => 0,
+                Block::Repeated(repeat) => u64::from(*repeat),
+            };
+            index + start.unsigned_abs() + u64::from(*size) + repeat
+        }
+        Line::Row(row) => weight_of_row(row),
+    }
 }
 
 fn weight_of_row(row: &Row) -> u64 {

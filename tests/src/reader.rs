@@ -1,16 +1,20 @@
-//! The independent reader: the section checks, the meaning of an accepted section, lookups in it, and steps and traces
-//! by it, written from document 01 alone.
+//! The independent reader: the section checks, the meaning of an accepted section, lookups in it, steps and traces by
+//! it, and its listing, written from document 01 alone; the listing from the words in which it was asked for.
 //!
 //! It is what the proved crates are compared with, so it shares nothing with them. Every sum is of i64 or u64 and exact:
 //! a start is an i32 plus a position below 2^24 + 1, a size is below 2^32, and row counts add up to less than 2^52.
 #![forbid(unsafe_code)]
 
 mod caller;
+mod listing;
 mod lookup;
+mod rows;
 mod trace;
 
 pub use caller::{step, Registers, Step, Where};
+pub use listing::{function_at, listing, FunctionAt, Line};
 pub use lookup::{lookup, Answer, Checked, Outcome};
+pub use rows::{next_row, rows_of, NextRow, RowsAt};
 use std::fmt;
 pub use trace::{trace, Ending, Traced};
 
@@ -308,7 +312,7 @@ struct Parts<'a> {
     area: &'a [u8],
 }
 
-impl<'a> Parts<'a> {
+impl Parts<'_> {
     // Inlined into the searches, which look at a start or a size and leave the rest unread.
     #[inline(always)]
     fn entry(&self, index: usize) -> Entry {
@@ -327,7 +331,7 @@ impl<'a> Parts<'a> {
     // The row at a place of the row area, tried in document 01's order: fixed part inside, info, offsets inside.
     // Inlined by measurement: with a call for each row the checks of `bench` take nearly twice as long.
     #[inline(always)]
-    fn row(&self, place: usize, start_width: usize) -> Result<RawRow<'a>, u64> {
+    fn row(&self, place: usize, start_width: usize) -> Result<TriedRow, u64> {
         let offsets_at = place + start_width + 1;
         let fixed = self.area.get(place..offsets_at).ok_or(11_u64)?;
         let (start, info) = (&fixed[..start_width], fixed[start_width]);
@@ -336,8 +340,8 @@ impl<'a> Parts<'a> {
         rule(12, size_code == 3 || !self.machine.allows(count))?;
         let offset_width = 1 << size_code;
         let end = offsets_at + usize::from(count) * offset_width;
-        let offsets = self.area.get(offsets_at..end).ok_or(11_u64)?;
-        Ok(RawRow { start: self.order.unsigned(start), info, offsets, end })
+        rule(11, end > self.area.len())?;
+        Ok(TriedRow { start: self.order.unsigned(start), end })
     }
 
     fn functions(&self) -> Vec<Function> {
@@ -346,17 +350,7 @@ impl<'a> Parts<'a> {
     }
 
     fn function(&self, entry: &Entry) -> Function {
-        let mut rows = Vec::new();
-        let mut place = entry.first_row as usize;
-        for _ in 0..entry.row_count {
-            let Ok(row) = self.row(place, entry.start_width()) else {
-                unreachable!("every row of an accepted section can be read");
-            };
-            rows.push(self.meaning(row.start, row.info, row.offsets));
-            place = row.end;
-        }
-        let block = if entry.is_repeated() { Block::Repeated(entry.repeat) } else { Block::Plain };
-        Function { start: entry.start, size: entry.size, block, rows }
+        Function { start: entry.start, size: entry.size, block: entry.block(), rows: self.rows(entry).collect() }
     }
 
     // What a row of an accepted section means; bytes that follow its offsets are not looked at.
@@ -410,13 +404,19 @@ impl Entry {
     fn is_repeated(&self) -> bool {
         self.info & 0x10 != 0
     }
+
+    fn block(&self) -> Block {
+        if self.is_repeated() {
+            Block::Repeated(self.repeat)
+        } else {
+            Block::Plain
+        }
+    }
 }
 
-/// A row as it stands in the row area.
-struct RawRow<'a> {
+/// A row that lies inside the row area.
+struct TriedRow {
     start: u32,
-    info: u8,
-    offsets: &'a [u8],
     /// Where the next row begins.
     end: usize,
 }

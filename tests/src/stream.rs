@@ -1,14 +1,19 @@
-//! An endless source of sections, sound and damaged, the same for the same seed, and of lookups and walks in them.
+//! An endless source of sections, sound and damaged, the same for the same seed, and of what is asked of them: functions
+//! by their indexes, rows, lookups and walks.
 //!
 //! A section begins as a random sound description. Most are then damaged: a field of the description, bytes of what
 //! was built from it, or its length. Damage likes the edges: one below, exactly at, one above.
 #![forbid(unsafe_code)]
 
+mod indexes;
 mod lookups;
+mod places;
 mod turns;
 mod walks;
 
+pub use indexes::indexes;
 pub use lookups::questions;
+pub use places::places;
 pub use turns::{turn, Turn};
 pub use walks::{walkable, walks};
 

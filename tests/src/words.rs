@@ -1,6 +1,10 @@
 //! What the program `sframe` prints: the words of each number and the lines of each answer, by what the reader says.
 #![forbid(unsafe_code)]
 
+mod listing;
+
+pub use listing::{listing, listing_of};
+
 use crate::reader::{Answer, Base, Ending, Header, Outcome, Place, Registers, Row, Step, Verdict};
 use crate::walk::Walked;
 
@@ -10,15 +14,19 @@ pub const MOST_SECTION_BYTES: usize = 6_291_456;
 /// The most bytes of a stack window that the program reads.
 pub const MOST_STACK_BYTES: usize = 1_048_576;
 
-/// Each command, and what it takes.
-pub const COMMANDS: [(&str, &str); 6] = [
+/// Each command, and what it takes; what stands in brackets may be left out.
+pub const COMMANDS: [(&str, &str); 7] = [
     ("check", "FILE"),
+    ("list", "FILE [INDEX]"),
     ("lookup", "FILE ADDRESS PC"),
     ("caller", "FILE ADDRESS STACK STACK_ADDRESS PC SP FP LR FIRST"),
     ("trace", "FILE ADDRESS STACK STACK_ADDRESS PC SP FP LR LIMIT"),
     ("help", ""),
     ("version", ""),
 ];
+
+/// The arguments that are counts: they are decimal, and all other numbers hexadecimal.
+pub const DECIMAL: [&str; 2] = ["INDEX", "LIMIT"];
 
 const WORDS: [(u64, &str); 28] = [
     (1, "fewer than 28 bytes"),
@@ -166,9 +174,9 @@ fn frames_of(walked: &Walked) -> String {
     head + &lines
 }
 
-/// What the program says to standard error of a wrong command line.
+/// What the program says to standard error, of a wrong command line above all.
 pub mod wrong {
-    use super::COMMANDS;
+    use super::{COMMANDS, DECIMAL};
 
     pub fn no_command() -> String {
         "sframe: no command; 'sframe help' lists them\n".to_string()
@@ -187,7 +195,17 @@ pub mod wrong {
     }
 
     pub fn number(name: &str, given: &str) -> String {
-        format!("sframe: {name} is not a hexadecimal number of 1 to 16 digits: '{given}'\n")
+        let (kind, digits) = if DECIMAL.contains(&name) { ("decimal", 19) } else { ("hexadecimal", 16) };
+        format!("sframe: {name} is not a {kind} number of 1 to {digits} digits: '{given}'\n")
+    }
+
+    pub fn refused_section() -> String {
+        "sframe: the section is refused; 'sframe check' says why\n".to_string()
+    }
+
+    /// Of an accepted section with so many functions.
+    pub fn no_function(index: u64, functions: u32) -> String {
+        format!("sframe: there is no function {index}: the section has {functions}\n")
     }
 
     pub fn missing(file: &str) -> String {
@@ -271,6 +289,19 @@ mod tests {
         assert_eq!(trace(k10), format!("{head}{first}{second}{ended}"));
         let ended = "frames: 1\nended: 28, a needed word is not wholly inside the stack window\n";
         assert_eq!(trace(k12), format!("{head}{first}{ended}"));
+    }
+
+    #[test]
+    fn wrong_arguments_are_told_by_their_names() {
+        assert_eq!(wrong::count("list"), "sframe: 'list' takes FILE [INDEX]\n");
+        assert_eq!(wrong::count("help"), "sframe: 'help' takes no arguments\n");
+        let address = "sframe: ADDRESS is not a hexadecimal number of 1 to 16 digits: 'xyz'\n";
+        assert_eq!(wrong::number("ADDRESS", "xyz"), address);
+        let limit = "sframe: LIMIT is not a decimal number of 1 to 19 digits: '0x10'\n";
+        assert_eq!(wrong::number("LIMIT", "0x10"), limit);
+        let index = "sframe: INDEX is not a decimal number of 1 to 19 digits: ''\n";
+        assert_eq!(wrong::number("INDEX", ""), index);
+        assert_eq!(wrong::no_function(12, 2), "sframe: there is no function 12: the section has 2\n");
     }
 
     #[test]

@@ -1,5 +1,6 @@
-//! Holds the library against the independent reader, checks, lookups, steps and traces: the stored cases, the large
-//! ones, and a seeded stream; and tries the forbidden pages that everything lent lies against.
+//! Holds the library against the independent reader, checks, functions by their indexes, rows, lookups, steps and
+//! traces: the stored cases, the large ones, and a seeded stream; and tries the forbidden pages that everything lent
+//! lies against.
 
 use std::os::unix::process::ExitStatusExt;
 use std::process::Command;

@@ -1,5 +1,5 @@
 //! That nothing is allocated and that there is no state, read off the static library itself, by `nm` and `size` of the
-//! system's binutils. It has the four functions of the header and no other name to be linked to; it needs no function of
+//! system's binutils. It has the seven functions of the header and no other name to be linked to; it needs no function of
 //! anyone, so it can call no allocator; and it has no byte that could be written to.
 #![cfg(feature = "library")]
 
@@ -37,11 +37,13 @@ fn written_to(text: &str) -> u64 {
 }
 
 #[test]
-fn it_exports_the_four_functions_alone() {
+fn it_exports_the_seven_functions_alone() {
     let text = said("nm", &["--format=posix", "--defined-only", "--extern-only"]);
     let mut exported = names(&text);
     exported.sort_unstable();
-    assert_eq!(exported, ["suntimpani_caller", "suntimpani_check", "suntimpani_lookup", "suntimpani_trace"]);
+    let calls = ["caller", "check", "function_at", "lookup", "next_row", "rows_of", "trace"];
+    let of_header = calls.map(|call| format!("suntimpani_{call}"));
+    assert_eq!(exported, of_header);
 }
 
 #[test]

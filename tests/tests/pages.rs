@@ -8,6 +8,7 @@ use std::collections::{BTreeMap, BTreeSet};
 use std::fs;
 use std::path::Path;
 use suntimpani_tests::cases::{self, S};
+use suntimpani_tests::reader::function_at;
 use suntimpani_tests::{in_repository, large};
 
 // ---- names and files
@@ -343,6 +344,7 @@ fn givers() -> BTreeMap<u64, BTreeSet<&'static str>> {
     let mut gives = |call, number| givers.entry(number).or_default().insert(call);
     for case in cases::all().iter().chain([&large::at_the_limit(1)]) {
         gives("check", case.expected.number());
+        gives("function", function_at(&case.section, 0).number);
         for asked in &case.questions {
             gives("lookup", asked.expected.refusal());
         }

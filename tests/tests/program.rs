@@ -3,66 +3,13 @@
 
 use std::collections::BTreeSet;
 use std::fs;
-use std::path::PathBuf;
-use std::process::{self, Command};
+use std::process::Command;
 use suntimpani_tests::cases::{self, corpus_section, Case, CORPUS_VERDICTS, S};
+use suntimpani_tests::program::{counted, text, Folder};
 use suntimpani_tests::reader::{self, Base, Outcome, Place, Verdict};
 use suntimpani_tests::walk::Walk;
-use suntimpani_tests::words::{self, wrong, COMMANDS, MOST_SECTION_BYTES, MOST_STACK_BYTES};
+use suntimpani_tests::words::{self, wrong, COMMANDS, DECIMAL, MOST_SECTION_BYTES, MOST_STACK_BYTES};
 use suntimpani_tests::{in_repository, ADDRESS};
-
-/// A folder of one test, in which the program is run; it is removed with its files at the end.
-struct Folder(PathBuf);
-
-impl Folder {
-    fn of(test: &str) -> Folder {
-        let path = std::env::temp_dir().join(format!("suntimpani-program-{}-{test}", process::id()));
-        fs::create_dir_all(&path).expect("a temporary folder");
-        Folder(path)
-    }
-
-    fn put(&self, name: &str, bytes: &[u8]) {
-        fs::write(self.0.join(name), bytes).expect("a temporary file");
-    }
-
-    /// The program's standard output and standard error.
-    fn run(&self, arguments: &[&str]) -> (String, String) {
-        let run = program().args(arguments).current_dir(&self.0).output().expect("the program starts");
-        assert!(run.status.code().is_some(), "{arguments:?}: {}", run.status);
-        (text(run.stdout), text(run.stderr))
-    }
-
-    fn answers(&self, arguments: &[&str], expected: &str) {
-        assert_eq!(self.run(arguments), (expected.to_string(), String::new()), "{arguments:?}");
-    }
-
-    fn refuses(&self, arguments: &[&str], expected: &str) {
-        assert_eq!(self.run(arguments), (String::new(), expected.to_string()), "{arguments:?}");
-    }
-}
-
-impl Drop for Folder {
-    fn drop(&mut self) {
-        // What cannot be removed is left to the system's own care of the folder.
-        let _ = fs::remove_dir_all(&self.0);
-    }
-}
-
-/// The program, which is compiled for x86-64; elsewhere it is started under an emulator.
-fn program() -> Command {
-    let program = in_repository("target/bin/sframe");
-    assert!(program.is_file(), "target/bin/sframe is not there: run 'rt check sframe'");
-    if cfg!(target_arch = "x86_64") {
-        return Command::new(program);
-    }
-    let mut launcher = Command::new(in_repository("tests/run_program"));
-    launcher.arg("sframe");
-    launcher
-}
-
-fn text(bytes: Vec<u8>) -> String {
-    String::from_utf8(bytes).expect("the program prints UTF-8")
-}
 
 // Numbers are given in each of their forms, by turns.
 fn given(number: u64) -> String {
@@ -73,6 +20,9 @@ fn given(number: u64) -> String {
         _ => format!("0x{number:016x}"),
     }
 }
+
+/// The highest number of 19 digits.
+const MOST_DECIMAL: u64 = 9_999_999_999_999_999_999;
 
 fn check(folder: &Folder, section: &[u8]) {
     folder.put("section", section);
@@ -85,16 +35,17 @@ fn lookup(folder: &Folder, section: &[u8], address: u64, pc: u64) {
     folder.answers(&["lookup", "section", &given(address), &given(pc)], &expected);
 }
 
-// A caller and a trace. The program lends its own buffer, which has room for every limit.
+// A caller and a trace. The program lends its own buffer, which has room for every limit; a limit of more digits than
+// it takes would be too high anyway.
 fn walk(folder: &Folder, section: &[u8], walk: &Walk) {
-    let walk = Walk { words: 768, ..walk.clone() };
+    let walk = Walk { words: 768, limit: walk.limit.min(MOST_DECIMAL), ..walk.clone() };
     let (walked, lies, from) = (walk.by_reader(section), walk.lies, walk.registers);
     folder.put("section", section);
     folder.put("stack", &walk.stack);
     let numbers = [from.pc, from.sp, from.fp, from.lr].map(given);
     let [pc, sp, fp, lr] = numbers.each_ref().map(String::as_str);
     let (address, stack_address) = (given(lies.section), given(lies.stack));
-    let (first, limit) = (given(from.first), given(walk.limit));
+    let (first, limit) = (given(from.first), counted(walk.limit));
     let arguments = |command, last| [command, "section", &address, "stack", &stack_address, pc, sp, fp, lr, last];
     folder.answers(&arguments("caller", &first), &words::step(&walked.step));
     folder.answers(&arguments("trace", &limit), &words::trace(&walked));
@@ -152,12 +103,16 @@ fn the_walks_of_document_01_are_answered() {
     let first = format!("{head}    0  0000000000007008  0000000000401008  0000000000007030\n");
     let second = format!("{first}    1  0000000000007040  0000000000000000  0000000000000000\n");
     let whole = format!("{second}frames: 2\nended: 30, RA is 0: the outermost frame\n");
-    folder.answers(&from("trace", "stack", "2"), &whole);
-    folder.answers(&from("trace", "stack", "0"), &whole);
+    // A limit is decimal: 0x256 would be too high.
+    for limit in ["2", "0", "256", "0000000000000000002"] {
+        folder.answers(&from("trace", "stack", limit), &whole);
+    }
     folder.answers(&from("trace", "stack", "1"), &format!("{first}frames: 1\nended: 31, the limit is full\n"));
     let ended = "frames: 1\nended: 28, a needed word is not wholly inside the stack window\n";
     folder.answers(&from("trace", "shorter", "2"), &format!("{first}{ended}"));
-    folder.answers(&from("trace", "stack", "101"), "refused: 42, the limit is above 256\n");
+    for limit in ["257", "0000000000000000257", "9999999999999999999"] {
+        folder.answers(&from("trace", "stack", limit), "refused: 42, the limit is above 256\n");
+    }
 }
 
 fn case_named<'a>(cases: &'a [Case], name: &str) -> &'a Case {
@@ -265,6 +220,7 @@ fn a_section_is_read_up_to_its_most_bytes() {
     folder.put("section", &longest);
     let too_long = wrong::too_long("section", MOST_SECTION_BYTES);
     folder.refuses(&["check", "section"], &too_long);
+    folder.refuses(&["list", "section"], &too_long);
     folder.refuses(&["lookup", "section", "0", "0"], &too_long);
 }
 
@@ -298,14 +254,21 @@ fn a_wrong_command_is_told() {
 fn a_wrong_count_is_told() {
     let folder = Folder::of("counts");
     for (command, takes) in COMMANDS {
-        let count = takes.split_whitespace().count();
+        let most = takes.split_whitespace().count();
+        let fewest = most - takes.matches('[').count();
         // Nothing of them is looked at: neither is a file, nor a number.
         let refuses = |count| folder.refuses(&[&[command][..], &vec!["?"; count]].concat(), &wrong::count(command));
-        [0, count.saturating_sub(1), count + 1, 20].into_iter().filter(|other| *other != count).for_each(refuses);
+        let others = [0, fewest.saturating_sub(1), most + 1, 20];
+        others.into_iter().filter(|count| !(fewest..=most).contains(count)).for_each(refuses);
     }
 }
 
-const NO_NUMBERS: [&str; 9] = ["", "xyz", "0x", "12345678123456781", "0x12345678123456781", "-1", "+1", "1 ", "0x0x1"];
+const NO_HEXADECIMAL: [&str; 9] =
+    ["", "xyz", "0x", "12345678123456781", "0x12345678123456781", "-1", "+1", "1 ", "0x0x1"];
+
+// 20 digits are too many, whatever they come to.
+const NO_DECIMAL: [&str; 12] =
+    ["", "xyz", "0x10", "ff", "1f", "12345678901234567890", "00000000000000000001", "-1", "+1", "1 ", " 1", "1.0"];
 
 // Every number of every command, all other arguments being right.
 #[test]
@@ -314,14 +277,15 @@ fn a_wrong_number_is_told() {
     folder.put("FILE", &S);
     folder.put("STACK", &[0; 8]);
     for (command, takes) in COMMANDS {
-        let names: Vec<&str> = takes.split(' ').collect();
+        let names: Vec<&str> = takes.split(' ').map(|name| name.trim_matches(['[', ']'])).collect();
         let numbers = (0..names.len()).filter(|&place| !["FILE", "STACK", ""].contains(&names[place]));
         numbers.for_each(|place| wrong_numbers_at(&folder, command, &names, place));
     }
 }
 
 fn wrong_numbers_at(folder: &Folder, command: &str, names: &[&str], place: usize) {
-    for given in NO_NUMBERS {
+    let wrong_ones = if DECIMAL.contains(&names[place]) { &NO_DECIMAL[..] } else { &NO_HEXADECIMAL };
+    for given in wrong_ones {
         let right = names.iter().map(|name| if ["FILE", "STACK"].contains(name) { name } else { "1" });
         let mut arguments: Vec<&str> = [command].into_iter().chain(right).collect();
         arguments[1 + place] = given;
@@ -333,9 +297,11 @@ fn wrong_numbers_at(folder: &Folder, command: &str, names: &[&str], place: usize
 fn a_wrong_file_is_told() {
     let folder = Folder::of("files");
     folder.put("S", &S);
-    fs::create_dir(folder.0.join("somedirectory")).expect("a folder in the temporary one");
+    fs::create_dir(folder.path().join("somedirectory")).expect("a folder in the temporary one");
     for (file, said) in [("nofile", wrong::missing("nofile")), ("somedirectory", wrong::directory("somedirectory"))] {
         folder.refuses(&["check", file], &said);
+        folder.refuses(&["list", file], &said);
+        folder.refuses(&["list", file, "0"], &said);
         folder.refuses(&["lookup", file, "0", "0"], &said);
         folder.refuses(&walk_of("caller", file, "S"), &said);
         folder.refuses(&walk_of("caller", "S", file), &said);
@@ -363,12 +329,15 @@ fn walk_of<'a>(command: &'a str, section: &'a str, stack: &'a str) -> [&'a str; 
 fn the_leftmost_wrong_argument_is_told() {
     let folder = Folder::of("order");
     folder.put("S", &S);
+    folder.refuses(&["list", "nofile", "xyz"], &wrong::missing("nofile"));
     folder.refuses(&["lookup", "nofile", "xyz"], &wrong::count("lookup"));
     folder.refuses(&["lookup", "nofile", "xyz", "zzz"], &wrong::missing("nofile"));
     folder.refuses(&["lookup", "S", "xyz", "zzz"], &wrong::number("ADDRESS", "xyz"));
     folder.refuses(&["trace", "S", "xyz", "nofile", "", "", "", "", "", ""], &wrong::number("ADDRESS", "xyz"));
     folder.refuses(&["trace", "S", "0", "nofile", "", "", "", "", "", ""], &wrong::missing("nofile"));
     folder.refuses(&["caller", "S", "0", "S", "0", "0", "0", "q", "r", "s"], &wrong::number("FP", "q"));
+    folder.refuses(&["trace", "S", "0", "S", "0", "0", "0", "0", "r", "0x1"], &wrong::number("LR", "r"));
+    folder.refuses(&["trace", "S", "0", "S", "0", "0", "0", "0", "0", "0x1"], &wrong::number("LIMIT", "0x1"));
 }
 
 #[test]
@@ -380,7 +349,9 @@ fn help_lists_every_command() {
         let form = format!("sframe {command} {takes}");
         assert!(out.lines().any(|line| line.trim() == form.trim() || line.contains(&form)), "{form}\n{out}");
     }
-    assert!(out.contains("hexadecimal") && out.lines().count() >= 2 * COMMANDS.len(), "{out}");
+    let told_of_counts = out.replace("hexadecimal", "").contains("decimal");
+    assert!(out.contains("hexadecimal") && told_of_counts, "{out}");
+    assert!(out.lines().count() >= 2 * COMMANDS.len(), "{out}");
 }
 
 // ---- the version

@@ -204,10 +204,19 @@ impl Proofs {
 fn says_determined(proofs: &Proofs, function: &Function) -> bool {
     let Function { name, cited, .. } = function;
     let statement = format!("Determined {name}-kinds.ps {name}-kinds.r {name}-reads.Learnt");
-    proofs.stated(&format!("{name}-determined")) == Some(&statement)
+    let by_kinds = proofs.stated(&format!("{name}-determined")) == Some(&statement)
         && proofs.uses("use Rattle.promises.specs.Determined.{Determined}")
         && proofs.uses(&format!("use {cited}.Kinds as {name}-kinds"))
-        && proofs.uses(&format!("use {cited}.Reads as {name}-reads"))
+        && proofs.uses(&format!("use {cited}.Reads as {name}-reads"));
+    by_kinds || says_determined_by_clauses(proofs, function)
+}
+
+/// The same of a function with a reference inside a struct, of whose contract the toolchain makes the clauses alone.
+fn says_determined_by_clauses(proofs: &Proofs, function: &Function) -> bool {
+    let Function { name, cited, .. } = function;
+    proofs.stated(&format!("{name}-determined")) == Some(&format!("DeterminedBy {name}.ended {name}.clauses"))
+        && proofs.uses("use Rattle.promises.specs.ByClauses.{DeterminedBy}")
+        && proofs.uses(&format!("use {cited} as {name}"))
 }
 
 /// Whether a file says of what a function asks, and of no other, that it can be met.
@@ -222,17 +231,34 @@ fn says_met(proofs: &Proofs, function: &Function) -> bool {
 /// Whether a file says that the code of a function returns, of that function's own contract and routine.
 fn says_returns(proofs: &Proofs, function: &Function, theorem: &str) -> bool {
     let of = theorem.trim_end_matches("-returns");
-    let statement = format!("Returns {of}.Kinds.ps {of}.Kinds.r {of}.Reads.Learnt {of}.Symbol.routine");
-    proofs.stated(theorem) == Some(&statement)
-        && proofs.uses("use Rattle.promises.specs.Returns.{Returns}")
+    let by_kinds = format!("Returns {of}.Kinds.ps {of}.Kinds.r {of}.Reads.Learnt {of}.Symbol.routine");
+    let by_clauses = format!("ReturnsBy {of}.ended {of}.clauses {of}.Symbol.routine");
+    let states = |statement: &str, from: &str| proofs.stated(theorem) == Some(statement) && proofs.uses(from);
+    (states(&by_kinds, "use Rattle.promises.specs.Returns.{Returns}")
+        || states(&by_clauses, "use Rattle.promises.specs.ByClauses.{ReturnsBy}"))
         && proofs.uses(&format!("use {} as {of}", function.cited))
 }
 
-/// The name under which it is said that a function returns: an exported one's, or one of the four calls'.
+/// The calls that people make: those that are exported, and the readers of rows and lines.
+const CALLS: [&str; 12] = [
+    "check",
+    "function_at",
+    "lookup",
+    "step",
+    "trace",
+    "place_of",
+    "row_turn",
+    "reader_of",
+    "next_row",
+    "cursor_of",
+    "cursor_at",
+    "next_line",
+];
+
+/// The name under which it is said that a function returns: an exported one's, or that of a call which people make.
 fn returns_of(function: &Function) -> Option<String> {
-    let calls = ["check", "lookup", "step", "trace"];
     let exported = function.name.strip_prefix("suntimpani_").map(|call| format!("exported-{call}-returns"));
-    exported.or_else(|| calls.contains(&&*function.name).then(|| format!("{}-returns", function.name)))
+    exported.or_else(|| CALLS.contains(&&*function.name).then(|| format!("{}-returns", function.name)))
 }
 
 /// Of which functions nothing says that they return, where it must be said.
@@ -360,7 +386,7 @@ fn of_libraries() -> Vec<Function> {
 fn every_call_and_every_exported_function_returns() {
     let functions = of_libraries();
     let proofs = Proofs::of(&text_of(&in_repository("crates/promises/proofs/Returned.antt")));
-    assert_eq!(functions.iter().filter(|function| returns_of(function).is_some()).count(), 8);
+    assert_eq!(functions.iter().filter(|function| returns_of(function).is_some()).count(), CALLS.len() + 7);
     assert_eq!(unreturned(&functions, &proofs), Vec::<String>::new());
     // It can fail: what is said of one function is not said of another.
     let other =

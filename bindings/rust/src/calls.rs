@@ -1,9 +1,49 @@
-//! The four functions of the C surface, with slices in place of pointers and lengths: the crate's only unsafe code.
+//! The seven functions of the C surface, with slices in place of pointers and lengths: the crate's only unsafe code.
 
 #[repr(C)]
 pub struct Verdict {
     pub number: u64,
     pub index: u64,
+}
+
+#[repr(C)]
+pub struct Function {
+    pub number: u64,
+    pub known: u64,
+    pub start: i64,
+    pub size: u64,
+    pub rows: u64,
+    pub repeated: u64,
+    pub repeat: u64,
+}
+
+#[repr(C)]
+#[derive(Clone, Copy, Debug)]
+pub struct Rows {
+    pub abi: u64,
+    pub code: u64,
+    pub at: u64,
+    pub left: u64,
+}
+
+/// A row's own fields, which stand alike in both structs that have a row.
+#[repr(C)]
+pub struct Told {
+    pub start: u64,
+    pub base: u64,
+    pub cfa: i64,
+    pub ra_place: u64,
+    pub ra: i64,
+    pub fp_place: u64,
+    pub fp: i64,
+    pub signed_ra: u64,
+}
+
+#[repr(C)]
+pub struct Row {
+    pub more: u64,
+    pub told: Told,
+    pub rest: Rows,
 }
 
 #[repr(C)]
@@ -13,14 +53,7 @@ pub struct Answer {
     pub second: u64,
     pub compared: u64,
     pub row: u64,
-    pub start: u64,
-    pub base: u64,
-    pub cfa: i64,
-    pub ra_place: u64,
-    pub ra: i64,
-    pub fp_place: u64,
-    pub fp: i64,
-    pub signed_ra: u64,
+    pub told: Told,
 }
 
 #[repr(C)]
@@ -54,6 +87,9 @@ pub struct Traced {
 
 extern "C" {
     fn suntimpani_check(section: *const u8, length: usize) -> Verdict;
+    fn suntimpani_function_at(section: *const u8, length: usize, index: u64) -> Function;
+    fn suntimpani_rows_of(section: *const u8, length: usize, index: u64) -> Rows;
+    fn suntimpani_next_row(section: *const u8, length: usize, rows: Rows) -> Row;
     fn suntimpani_lookup(section: *const u8, length: usize, address: u64, pc: u64) -> Answer;
     fn suntimpani_caller(
         section: *const u8,
@@ -79,6 +115,21 @@ extern "C" {
 pub fn check(section: &[u8]) -> Verdict {
     // SAFETY: the pointer and the length are those of a slice, which is lent for the length of the call.
     unsafe { suntimpani_check(section.as_ptr(), section.len()) }
+}
+
+pub fn function_at(section: &[u8], index: u64) -> Function {
+    // SAFETY: the pointer and the length are those of a slice, which is lent for the length of the call.
+    unsafe { suntimpani_function_at(section.as_ptr(), section.len(), index) }
+}
+
+pub fn rows_of(section: &[u8], index: u64) -> Rows {
+    // SAFETY: the pointer and the length are those of a slice, which is lent for the length of the call.
+    unsafe { suntimpani_rows_of(section.as_ptr(), section.len(), index) }
+}
+
+pub fn next_row(section: &[u8], rows: Rows) -> Row {
+    // SAFETY: the pointer and the length are those of a slice, which is lent for the length of the call.
+    unsafe { suntimpani_next_row(section.as_ptr(), section.len(), rows) }
 }
 
 pub fn lookup(section: &[u8], address: u64, pc: u64) -> Answer {

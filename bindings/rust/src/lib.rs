@@ -1,10 +1,11 @@
 //! Reads `.sframe` unwind tables (SFrame version 2; AMD64, and AArch64 in both byte orders) and walks a crashed
 //! program's stack, with every answer proved.
 //!
-//! You lend a section, registers, a stack window and a buffer. [`check`] says whether the section is sound, [`lookup`]
-//! which function and row cover a PC, [`Registers::step`] what the caller's registers are, and [`trace`] what the whole
-//! trace is. Any bytes and any numbers may be handed in: every call ends, and an answer that cannot be given is a
-//! refusal with its number.
+//! You lend a section, registers, a stack window and a buffer. [`check`] says whether the section is sound,
+//! [`function_at`] where the function with an index lies and [`rows`](rows()) what its rows are, [`lookup`] which function
+//! and row cover a PC, [`Registers::step`] what the caller's registers are, and [`trace`] what the whole trace is. Any
+//! bytes and any numbers may be handed in: every call ends, and an answer that cannot be given is a refusal with its
+//! number.
 //!
 //! Nothing is allocated and nothing is kept, so that all of it may be called in a signal handler. The crate needs
 //! neither `std` nor an allocator.
@@ -30,12 +31,16 @@
 #[allow(unsafe_code)]
 mod calls;
 pub mod example;
+mod functions;
 mod look;
 mod refusal;
+mod rows;
 mod walk;
 
+pub use functions::{function_at, functions, Block, Function, Functions};
 pub use look::{lookup, Answer, Base, Outcome, Place, Row};
 pub use refusal::{Refusal, Rule, Unsound};
+pub use rows::{rows, Rows};
 pub use walk::{frames, trace, Ending, Frame, Registers, Step, Traced, Where};
 
 /// The version of the library: the header for C has the same as `SUNTIMPANI_VERSION`.

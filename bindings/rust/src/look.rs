@@ -94,7 +94,7 @@ pub enum Place {
 pub fn lookup(section: &[u8], address: u64, pc: u64) -> Answer {
     let said = calls::lookup(section, address, pc);
     let outcome = match said.number {
-        0 => Outcome::Found { function: said.function, number: said.row, row: Row::of(&said) },
+        0 => Outcome::Found { function: said.function, number: said.row, row: Row::of(&said.told) },
         21 => Outcome::NoFunction,
         22 => Outcome::Dispute { first: said.function, second: said.second },
         23 => Outcome::NoRow { function: said.function },
@@ -124,7 +124,7 @@ impl Outcome {
 
 impl Row {
     // By the library's contract a base, a place and the signed bit are 0 or 1.
-    fn of(said: &calls::Answer) -> Row {
+    pub(crate) fn of(said: &calls::Told) -> Row {
         let base = match said.base {
             0 => Base::Fp,
             1 => Base::Sp,

@@ -26,14 +26,14 @@ pub struct Measured {
 }
 
 // The part of a number below 2^32.
-fn low_of(n: u64) -> u64
+pub fn low_of(n: u64) -> u64
     ensures { λ r. ⌜ r ≡ low n ⌝ }
     ensures range { λ r. ⌜ r < 2 ^ 32 ⌝ }
 {
     n % 0x1_0000_0000
 }
 
-fn magnitude_of(offset: Offset) -> u64
+pub fn magnitude_of(offset: Offset) -> u64
     ensures { λ r. ⌜ r ≡ magnitude offset ⌝ }
     ensures range { λ r. ⌜ r < 2 ^ 32 ⌝ }
 {
@@ -73,7 +73,7 @@ fn flag_weight(set: bool) -> u64
     0
 }
 
-fn row_weight(row: Row) -> u64
+pub fn row_weight(row: Row) -> u64
     ensures { λ r. ⌜ r ≡ rowWeight row ⌝ }
     ensures range { λ r. ⌜ r < 6 * 2 ^ 32 ⌝ }
 {

@@ -87,6 +87,13 @@ parts z = record { apart = parts-at z }
 held-parts : {start : ℤ} {h : ℕ} → Held start h → h ≡ up start + 2 ^ 32 - down start
 held-parts {start} held = held .is ∙ raised-is (parts start)
 
+-- a start from how it is held
+pub held-less : {start : ℤ} {h : ℕ} → Held start h → pos h -ℤ pos (2 ^ 32) ≡ start
+held-less {start} {h} held =
+    let s = held-parts held in
+    let above = held .above in
+    diff-unique (diff-less h (2 ^ 32)) (diff-same h (2 ^ 32) (omega arith) (parts start))
+
 near-parts : {d : ℤ} {n : ℕ} → Near d n → n ≡ min (up d + 2 ^ 32 - down d) (2 ^ 34)
 near-parts {d} dist = dist .is ∙ near-is (parts d)
 

@@ -1,5 +1,6 @@
 // Starts of functions and the distance they are compared with, each held 2^32 above its exact value, so that it is never
 // below 0 and every comparison is of plain u64.
+use crate::offset::Offset;
 ghost use mathlib.Core.Path.{_≡_};
 ghost use Prim.Native.Nat.{_<_, _^_};
 ghost use Rattle.numbers.specs.inner.Held.{rank, raised, near, Held};
@@ -26,6 +27,15 @@ pub fn held_start(field: u32, position: u32) -> u64
     ensures range { λ r. ⌜ Held (startAt field position) r ⌝ }
 {
     rank_of(field) + NEGATIVE + position as u64
+}
+
+// The same start as it is, an offset from the section's first byte.
+pub fn start_at(field: u32, position: u32) -> Offset
+    ensures { λ r. ⌜ r .by ≡ startAt field position ⌝ }
+{
+    Offset {
+        by: held_start(field, position) as i64 - LIFT as i64,
+    }
 }
 
 // PC minus section address, exact and never wrapped; beyond every start and end it is kept at 0 or at 2^34.

@@ -1,6 +1,7 @@
 -- Every public function of `numbers` determines its reply: two replies that its own contract allows for one input are equal.
 -- Assumes nothing.
-use mathlib.Core.Path.{refl, sym, _∙_}
+use mathlib.Core.Path.{refl, sym, _∙_, ap}
+use lib.IntN.{ℤ}
 use Rattle.numbers.proofs.address.address_of.Kinds as address_of-kinds
 use Rattle.numbers.proofs.address.address_of.Reads as address_of-reads
 use Rattle.numbers.proofs.address.window_fits.Kinds as window_fits-kinds
@@ -27,6 +28,8 @@ use Rattle.numbers.proofs.held.near_of.Kinds as near_of-kinds
 use Rattle.numbers.proofs.held.near_of.Reads as near_of-reads
 use Rattle.numbers.proofs.held.rank_of.Kinds as rank_of-kinds
 use Rattle.numbers.proofs.held.rank_of.Reads as rank_of-reads
+use Rattle.numbers.proofs.held.start_at.Kinds as start_at-kinds
+use Rattle.numbers.proofs.held.start_at.Reads as start_at-reads
 use Rattle.numbers.proofs.offset.offset_at.Kinds as offset_at-kinds
 use Rattle.numbers.proofs.offset.offset_at.Reads as offset_at-reads
 use Rattle.numbers.proofs.offset.offset_of.Kinds as offset_of-kinds
@@ -82,3 +85,6 @@ offset_at-determined κs a z z′ w w′ p q = (p ∙ sym q, refl)
 
 pub shift_of-determined : Determined shift_of-kinds.ps shift_of-kinds.r shift_of-reads.Learnt
 shift_of-determined κs a z z′ w w′ p q = (p ∙ sym q, refl)
+
+pub start_at-determined : Determined start_at-kinds.ps start_at-kinds.r start_at-reads.Learnt
+start_at-determined κs a z z′ w w′ p q = (ap (λ (by : ℤ). record { by = by }) (p ∙ sym q), refl)

@@ -1,4 +1,4 @@
--- Each of the four exported functions, run on the toolchain's machine from a memory that has nothing but what is lent, ends with the struct
+-- Each of the seven exported functions, run on the toolchain's machine from a memory that has nothing but what is lent, ends with the struct
 -- that its contract names, and a trace leaves the buffer with the words that it names. So `Returns` is not said of nothing.
 -- Assumes nothing.
 use mathlib.Core.Path.{refl, ap, subst}
@@ -33,22 +33,32 @@ use Rattle.caller.proofs.registers.Registers.Laws as registers-laws
 use Rattle.caller.proofs.registers.Where as where-type
 use Rattle.caller.proofs.registers.Where.Laws as where-laws
 use Rattle.suntimpani.specs.Flat.{handedAs}
+use Rattle.suntimpani.specs.declared.rows.RowsInC.{RowsInC}
 use Rattle.suntimpani.specs.declared.walks.TracedInC.{TracedInC}
 use Rattle.suntimpani.proofs.flat.VerdictInC as verdict-type
 use Rattle.suntimpani.proofs.flat.AnswerInC as answer-type
+use Rattle.suntimpani.proofs.functions.FunctionInC as function-type
+use Rattle.suntimpani.proofs.rows.RowInC as row-type
+use Rattle.suntimpani.proofs.rows.RowsInC as rows-type
+use Rattle.suntimpani.proofs.rows.RowsInC.Laws as rows-laws
 use Rattle.suntimpani.proofs.walks.StepInC as step-type
 use Rattle.suntimpani.proofs.walks.TracedInC as traced-type
 use Rattle.suntimpani.proofs.suntimpani_check as exported-check
+use Rattle.suntimpani.proofs.suntimpani_function_at as exported-function_at
+use Rattle.suntimpani.proofs.suntimpani_rows_of as exported-rows_of
+use Rattle.suntimpani.proofs.suntimpani_next_row as exported-next_row
 use Rattle.suntimpani.proofs.suntimpani_lookup as exported-lookup
 use Rattle.suntimpani.proofs.suntimpani_caller as exported-caller
 use Rattle.suntimpani.proofs.suntimpani_trace as exported-trace
 use Rattle.promises.specs.Exported.{exported}
+use Rattle.promises.specs.FunctionCall.{exportedFunction}
+use Rattle.promises.specs.RowsCall.{exportedRows}
 use Rattle.promises.specs.Returns.{Assertion, _∗_, _has_, StandsFor, HandedBack}
-use Rattle.promises.specs.Runs.{Runs, Bytes, whole, whereValue, WhereFits, registersValue, RegistersFit, Words, WithBuffer, BufferHas}
+use Rattle.promises.specs.Runs.{Runs, Bytes, whole, whereValue, WhereFits, registersValue, RegistersFit, rowsValue, RowsFit, Words, WithBuffer, BufferHas}
 use Rattle.promises.proofs.BufferLaws.{Buffer, words, words-kept, lends-words, can-be-stored, with-buffer, buffer-has}
 use Rattle.promises.proofs.ExportedKept.{exports-give}
 use Rattle.promises.proofs.ReturnLaws.{𝓤, H, 𝓜, A}
-use Rattle.promises.proofs.Returned.{exported-check-returns, exported-lookup-returns, exported-caller-returns, exported-trace-returns}
+use Rattle.promises.proofs.Returned.{exported-check-returns, exported-function_at-returns, exported-rows_of-returns, exported-next_row-returns, exported-lookup-returns, exported-caller-returns, exported-trace-returns}
 use Rattle.promises.proofs.RunLaws.{W, hold, Ready, nothing-yet, and-value, and-lent, referred, Block, slice, slice-kept, lends-bytes, run-ends, runs}
 
 -- ---- what is handed in
@@ -69,7 +79,7 @@ and-slice : {σ : Memory} {held owned kept : Assertion} (F : Assertion) (j : ℕ
     → ∥ ((α : ℕ) × (γ : GName) × Ready σ (hold α ∗ held) (slice j s b α γ ∗ owned) (slice-kept j s b α γ ∗ kept) F) ∥₁
 and-slice F j s b bytes = and-lent (Block b s) (slice j s b) (slice-kept j s b) (lends-bytes j s b (omega arith, omega arith))
 
--- a word, and the two structs, which are had for nothing
+-- a word, and the three structs, which are had for nothing
 word : (n : ℕ) → n < 2 ^ 64 → ent 𝓤 (emp 𝓤) (sem 𝓤 H A (u64 .own n (vint w64 n ∷ [])))
 word n fits = uint-makes 𝓤 H A W w64 n (vint w64 n ∷ []) (refl, fits)
 
@@ -79,6 +89,9 @@ the-where lies fits = struct-laws.makes where-type.the-type where-laws.the-plain
 the-registers : (registers : Registers) → RegistersFit registers
     → ent 𝓤 (emp 𝓤) (sem 𝓤 H A (registers-type.the-row .own registers (registersValue registers ∷ [])))
 the-registers registers fit = struct-laws.makes registers-type.the-type registers-laws.the-plain 𝓤 H A registers (registersValue registers ∷ []) fit
+
+the-rows : (rows : RowsInC) → RowsFit rows → ent 𝓤 (emp 𝓤) (sem 𝓤 H A (rows-type.the-row .own rows (rowsValue rows ∷ [])))
+the-rows rows fit = struct-laws.makes rows-type.the-type rows-laws.the-plain 𝓤 H A rows (rowsValue rows ∷ []) fit
 
 -- ---- the runs
 
@@ -90,6 +103,39 @@ exported-check-runs s bytes =
     let κs : Lfts 1 = (α ∷ [], tt) in
     let a : Dens κs exported-check.Kinds.ps = (referred 0 s γ, tt) in
     runs exported-check-returns κs tt (fullShare, tt) a all (λ z w. exports-give .check κs a z .0)
+
+pub exported-function_at-runs : (s : List ℕ) (index : ℕ) → Bytes s → index < 2 ^ 64
+    → Runs exported-function_at.Symbol.routine (whole 0 s ∷ vint w64 index ∷ []) (startMem s [])
+    (λ value after. StandsFor function-type.the-row (exportedFunction s index) value)
+unfolding exportedFunction
+exported-function_at-runs s index bytes index-fits =
+    ∥∥₁-elim (and-slice (emp 𝓤) 0 s 0 bytes (and-value (word index index-fits) (nothing-yet (one-block s bytes)))) ∥∥₁-prop λ lent.
+    let (α, γ, all) = lent in
+    let κs : Lfts 1 = (α ∷ [], tt) in
+    let a : Dens κs exported-function_at.Kinds.ps = (referred 0 s γ, (index, tt)) in
+    runs exported-function_at-returns κs tt (fullShare, tt) a all (λ z w allowed. allowed)
+
+pub exported-rows_of-runs : (s : List ℕ) (index : ℕ) → Bytes s → index < 2 ^ 64
+    → Runs exported-rows_of.Symbol.routine (whole 0 s ∷ vint w64 index ∷ []) (startMem s [])
+    (λ value after. StandsFor rows-type.the-row (exportedRows .begin s index) value)
+unfolding exportedRows
+exported-rows_of-runs s index bytes index-fits =
+    ∥∥₁-elim (and-slice (emp 𝓤) 0 s 0 bytes (and-value (word index index-fits) (nothing-yet (one-block s bytes)))) ∥∥₁-prop λ lent.
+    let (α, γ, all) = lent in
+    let κs : Lfts 1 = (α ∷ [], tt) in
+    let a : Dens κs exported-rows_of.Kinds.ps = (referred 0 s γ, (index, tt)) in
+    runs exported-rows_of-returns κs tt (fullShare, tt) a all (λ z w allowed. allowed)
+
+pub exported-next_row-runs : (s : List ℕ) (rows : RowsInC) → Bytes s → RowsFit rows
+    → Runs exported-next_row.Symbol.routine (whole 0 s ∷ rowsValue rows ∷ []) (startMem s [])
+    (λ value after. StandsFor row-type.the-row (exportedRows .next s rows) value)
+unfolding exportedRows
+exported-next_row-runs s rows bytes rows-fit =
+    ∥∥₁-elim (and-slice (emp 𝓤) 0 s 0 bytes (and-value (the-rows rows rows-fit) (nothing-yet (one-block s bytes)))) ∥∥₁-prop λ lent.
+    let (α, γ, all) = lent in
+    let κs : Lfts 1 = (α ∷ [], tt) in
+    let a : Dens κs exported-next_row.Kinds.ps = (referred 0 s γ, (rows, tt)) in
+    runs exported-next_row-returns κs tt (fullShare, tt) a all (λ z w allowed. allowed)
 
 pub exported-lookup-runs : (s : List ℕ) (address pc : ℕ) → Bytes s → address < 2 ^ 64 → pc < 2 ^ 64
     → Runs exported-lookup.Symbol.routine (whole 0 s ∷ vint w64 address ∷ vint w64 pc ∷ []) (startMem s [])

@@ -29,6 +29,7 @@ use Rattle.section.proofs.row.info_at.Reads as info_at-reads
 use Rattle.section.proofs.row.row_at.Reads as row_at-reads
 use Rattle.section.proofs.row.row_length.Reads as row_length-reads
 use Rattle.accept.proofs.row_check.check_rows.Reads as check_rows-reads
+use Rattle.listing.proofs.function.facts_at.Reads as facts_at-reads
 use Rattle.lookup.specs.inner.Opened.{lookupOpened}
 use Rattle.lookup.proofs.look.look.Reads as look-reads
 use Rattle.lookup.proofs.rows.scan_rows.Reads as scan_rows-reads
@@ -139,6 +140,15 @@ pub check_rows-met :
     )
 unfolding lookupOpened sectionS
 check_rows-met κs here = (omega arith, omega arith)
+
+-- ---- listing
+
+-- both functions
+pub facts_at-met :
+    (κs : Lfts 1) (here : Lies) (i : ℕ) → i < 2 → facts_at-reads.Asked κs (lent here sectionS, (layoutOf sectionS, (i, tt)))
+unfolding lookupOpened sectionS
+facts_at-met κs here i inside =
+    record { long = omega arith; layout-is = refl; inside = omega arith; small = omega arith; known = inside }
 
 -- ---- lookup: S is accepted, so that any address and PC may be asked for
 

@@ -47,8 +47,8 @@ abbrev pub A : Atoms 𝓤
 A = 𝓖 .A
 
 -- a plain fact that something says which a memory has
-told : (σ : Memory) (P Q : Assertion) (φ : Type 0) → ent 𝓤 P (fact 𝓤 φ) → σ has P ∗ Q → ∥ φ ∥₁
-told σ P Q φ says s = sat-fact 𝓤 H 𝓜 σ (P ∗ Q) φ (via 𝓤 (P ∗ Q) (snd∗ 𝓤 (𝓜 .mem σ) (P ∗ Q)) (via 𝓤 P (fst∗ 𝓤 P Q) says)) s
+pub is-told : (σ : Memory) (P Q : Assertion) (φ : Type 0) → ent 𝓤 P (fact 𝓤 φ) → σ has P ∗ Q → ∥ φ ∥₁
+is-told σ P Q φ says s = sat-fact 𝓤 H 𝓜 σ (P ∗ Q) φ (via 𝓤 (P ∗ Q) (snd∗ 𝓤 (𝓜 .mem σ) (P ∗ Q)) (via 𝓤 P (fst∗ 𝓤 P Q) says)) s
 
 -- ---- a contract with no `requires`, and the run of a routine that meets it
 
@@ -93,7 +93,7 @@ module _ {n : ℕ} (ps : List (PK n)) (r : RK n) (Learnt : Out n ps r) (routine 
         let (z, s₂) = replied in
         let back : Assertion = Held ∗ Own v z in
         ∥∥₁-elim
-        (told σ′ (Replied v z) F (Is (resT r κs) z (v ∷ []))
+        (is-told σ′ (Replied v z) F (Is (resT r κs) z (v ∷ []))
         (via 𝓤 back (fst∗ 𝓤 back (Said z)) (via 𝓤 (Own v z) (snd∗ 𝓤 Held (Own v z)) (shows 𝓤 H A (resT r κs) z (v ∷ [])))) s₂)
         ∥∥₁-prop λ is.
         ∥∥₁-elim
@@ -101,7 +101,7 @@ module _ {n : ℕ} (ps : List (PK n)) (r : RK n) (Learnt : Out n ps r) (routine 
         (sat-weaken 𝓤 H 𝓜 σ′ (via 𝓤 ((Said z ∗ back) ∗ F) (monoL 𝓤 F (comm∗ 𝓤 back (Said z))) (assoc∗ 𝓤 (Said z) back F)) s₂))
         ∥∥₁-prop λ said.
         let (w, s₃) = said in
-        ∥∥₁-map (told σ′ (Last w ∗ Allowed z w) (back ∗ F) (Allows ps r Learnt κs a z w) (snd∗ 𝓤 (Last w) (Allowed z w)) s₃) λ allows.
+        ∥∥₁-map (is-told σ′ (Last w ∗ Allowed z w) (back ∗ F) (Allows ps r Learnt κs a z w) (snd∗ 𝓤 (Last w) (Allowed z w)) s₃) λ allows.
         record {
           fuel = fuel;
           value = v;

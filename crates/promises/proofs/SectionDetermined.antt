@@ -1,10 +1,13 @@
 -- Every public function of `section` determines its reply: two replies that its own contract allows for one input are equal.
 -- Assumes nothing.
-use mathlib.Core.Path.{refl, sym, _∙_}
+use mathlib.Core.Path.{refl, sym, _∙_, ap}
+use lib.IntN.{ℤ}
 use Rattle.section.proofs.entry.does_repeat.Kinds as does_repeat-kinds
 use Rattle.section.proofs.entry.does_repeat.Reads as does_repeat-reads
 use Rattle.section.proofs.entry.entry_at.Kinds as entry_at-kinds
 use Rattle.section.proofs.entry.entry_at.Reads as entry_at-reads
+use Rattle.section.proofs.entry.exact_start.Kinds as exact_start-kinds
+use Rattle.section.proofs.entry.exact_start.Reads as exact_start-reads
 use Rattle.section.proofs.entry.start_of.Kinds as start_of-kinds
 use Rattle.section.proofs.entry.start_of.Reads as start_of-reads
 use Rattle.section.proofs.entry.type_of.Kinds as type_of-kinds
@@ -87,3 +90,6 @@ abi_of-determined κs a z z′ w w′ p q = (p ∙ sym q, refl)
 
 pub shape_of-determined : Determined shape_of-kinds.ps shape_of-kinds.r shape_of-reads.Learnt
 shape_of-determined κs a z z′ w w′ p q = (p ∙ sym q, refl)
+
+pub exact_start-determined : Determined exact_start-kinds.ps exact_start-kinds.r exact_start-reads.Learnt
+exact_start-determined κs a z z′ w w′ p q = (ap (λ (by : ℤ). record { by = by }) (p ∙ sym q), refl)

@@ -1,5 +1,6 @@
--- The four exported functions, as a program in C sees them: any four calls that answer flat structs, what the contracts of ours allow,
--- how the structs are read, and what is promised of them: the three demands, of the answers that the structs stand for.
+-- The exported functions that the demands are of, as a program in C sees them: any four calls that answer flat structs, what the contracts
+-- of ours allow, how the structs are read, and what is promised of them: the three demands, of the answers that the structs stand for. The
+-- others have files of their own, `FunctionCall` and `RowsCall`.
 use mathlib.Core.Path.{_≡_}
 use mathlib.Core.List.{List}
 use mathlib.Core.Logic.{_↔_}
@@ -51,7 +52,7 @@ flatCalls calls =
       trace = λ s stack lies registers limit old. flatTrace (calls .trace s stack lies registers limit old);
     }
 
--- what the contracts of our four exported functions name
+-- what the contracts of these four exported functions of ours name
 unfoldable pub exported : FlatCalls
 exported = flatCalls ours
 

@@ -1,3 +1,4 @@
+pub mod ByClauses
 pub mod Calls
 pub mod Contracts
 pub mod Demand1
@@ -5,10 +6,14 @@ pub mod Demand2
 pub mod Demand3
 pub mod Determined
 pub mod Exported
+pub mod FunctionCall
+pub mod ListingCall
 pub mod Listings
 pub mod Promises
+pub mod ReaderSays
 pub mod Refusals
 pub mod Returns
+pub mod RowsCall
 pub mod Runs
 pub mod SameFunctions
 pub mod Table

@@ -20,6 +20,9 @@ use Rattle.caller.proofs.registers.Registers as registers-type
 use Rattle.caller.proofs.registers.Registers.Laws as registers-laws
 use Rattle.caller.proofs.registers.Where as where-type
 use Rattle.caller.proofs.registers.Where.Laws as where-laws
+use Rattle.suntimpani.specs.declared.rows.RowsInC.{RowsInC}
+use Rattle.suntimpani.proofs.rows.RowsInC as rows-type
+use Rattle.suntimpani.proofs.rows.RowsInC.Laws as rows-laws
 use Rattle.promises.specs.Returns.{StandsFor}
 
 -- run on these values from σ, the routine is done, with a value and a memory of which this holds
@@ -50,6 +53,12 @@ registersValue = registers-laws.lowered
 
 abbrev pub RegistersFit : Registers → Type 0
 RegistersFit registers = StandsFor registers-type.the-row registers (registersValue registers)
+
+abbrev pub rowsValue : RowsInC → Val
+rowsValue = rows-laws.lowered
+
+abbrev pub RowsFit : RowsInC → Type 0
+RowsFit rows = StandsFor rows-type.the-row rows (rowsValue rows)
 
 -- ---- words to write, in a third block
 

@@ -1,2 +1,3 @@
 -- What the code computes, and its contracts cite: no demand needs it to be believed.
+pub mod OurReaders
 pub mod Ours

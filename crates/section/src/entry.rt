@@ -4,6 +4,8 @@ use numbers::field::Order;
 use numbers::field::u8_at;
 use numbers::field::u32_at;
 use numbers::held::held_start;
+use numbers::held::start_at;
+use numbers::offset::Offset;
 ghost use mathlib.Core.Path.{_≡_};
 ghost use Prim.Native.Nat.{_+_, _≤_};
 ghost use lib.ListN.{length};
@@ -67,4 +69,11 @@ pub fn start_of(relative: bool, entry: Entry) -> u64
     ensures range { λ r. ⌜ Held (startOf relative entry) r ⌝ }
 {
     held_start(entry.start, position_at(relative, entry.place))
+}
+
+// The effective start as it is.
+pub fn exact_start(relative: bool, entry: Entry) -> Offset
+    ensures { λ r. ⌜ r .by ≡ startOf relative entry ⌝ }
+{
+    start_at(entry.start, position_at(relative, entry.place))
 }

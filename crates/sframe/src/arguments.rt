@@ -4,8 +4,9 @@ ghost use lib.ListN.{length};
 ghost use Rattle.sframe.specs.Reading.{Within};
 use crate::say::complain;
 use crate::say::complain_number;
-use hexadecimal::Parsed;
-use hexadecimal::parse;
+use digits::Parsed;
+use digits::parse;
+use digits::parse_decimal;
 
 // The length of "sframe: ", which every message begins with.
 const FRONT: usize = 8;
@@ -18,10 +19,19 @@ pub enum Loaded {
     Failed,
 }
 
-fn complain_of_number(name: &[u8], text: &[u8]) {
+// What a number of each kind is: an address in hexadecimal, a count in decimal.
+fn complain_of_kind(address: bool) {
+    if address {
+        complain(b" is not a hexadecimal number of 1 to 16 digits: '");
+        return;
+    }
+    complain(b" is not a decimal number of 1 to 19 digits: '");
+}
+
+fn complain_of_number(name: &[u8], address: bool, text: &[u8]) {
     complain(b"sframe: ");
     complain(name);
-    complain(b" is not a hexadecimal number of 1 to 16 digits: '");
+    complain_of_kind(address);
     complain(text);
     complain(b"'\n");
 }
@@ -33,19 +43,36 @@ fn complain_of_length(said: &[u8], most: u64) {
     complain(b" bytes, the most that this program reads\n");
 }
 
+fn parsed(text: &[u8], address: bool) -> Parsed {
+    if address {
+        return parse(text);
+    }
+    parse_decimal(text)
+}
+
 // The number that argument i gives. `name` is what `sframe help` calls it.
-pub fn number_given(i: usize, name: &[u8]) -> Parsed {
+fn given_at(i: usize, name: &[u8], address: bool) -> Parsed {
     let mut text = io::buffer();
     let n = os::arg(i, &mut text);
     if os::errno() != 0 {
-        complain_of_number(name, &text);
+        complain_of_number(name, address, &text);
         return Parsed::Wrong;
     }
-    let parsed = parse(&text[..n]);
-    if let Parsed::Wrong = parsed {
-        complain_of_number(name, &text[..n]);
+    let number = parsed(&text[..n], address);
+    if let Parsed::Wrong = number {
+        complain_of_number(name, address, &text[..n]);
     }
-    parsed
+    number
+}
+
+// An address, or what is as wide as one: hexadecimal.
+pub fn number_given(i: usize, name: &[u8]) -> Parsed {
+    given_at(i, name, true)
+}
+
+// How many, or which one: decimal.
+pub fn count_given(i: usize, name: &[u8]) -> Parsed {
+    given_at(i, name, false)
 }
 
 // Reads a file to its end. The room has a byte more than may be read, so that a longer file fills it.

@@ -4,6 +4,8 @@ use crate::say::say;
 fn show_forms() {
     say(b"sframe check FILE\n");
     say(b"    whether a section is accepted, else the first broken rule\n");
+    say(b"sframe list FILE [INDEX]\n");
+    say(b"    every function and row of a section, or one function by its index\n");
     say(b"sframe lookup FILE ADDRESS PC\n");
     say(b"    the function and the row for a PC\n");
     say(b"sframe caller FILE ADDRESS STACK STACK_ADDRESS PC SP FP LR FIRST\n");
@@ -27,8 +29,13 @@ fn show_arguments() {
     say(
         b"PC, SP, FP and LR are the registers. FIRST is 0 for no first-frame mark, any other number for the mark.\n",
     );
-    say(b"LIMIT is the most frames, up to 100 (256 of them), and 0 stands for 40 (64 of them).\n");
-    say(b"All numbers given are hexadecimal, 1 to 16 digits, with or without a leading 0x.\n");
+    say(
+        b"LIMIT is the most frames, up to 256, and 0 stands for 64. INDEX counts the functions from 0.\n",
+    );
+    say(b"LIMIT and INDEX are decimal, 1 to 19 digits.\n");
+    say(
+        b"All other numbers given are hexadecimal, 1 to 16 digits, with or without a leading 0x.\n",
+    );
 }
 
 pub fn show_help() {

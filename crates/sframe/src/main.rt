@@ -1,7 +1,9 @@
-// The program for people: it checks an `.sframe` section, looks a PC up in it, works out one caller, or walks a trace.
+// The program for people: it checks an `.sframe` section, lists it, looks a PC up in it, works out one caller, or walks a trace.
 // Every answer is the library's; this program reads the arguments and the files, and prints.
 mod arguments;
 mod help;
+mod line;
+mod list;
 mod refusals;
 mod say;
 mod show;
@@ -13,13 +15,14 @@ use crate::arguments::Loaded;
 use crate::arguments::file_given;
 use crate::arguments::number_given;
 use crate::help::show_help;
+use crate::list::answer_list;
 use crate::say::complain;
 use crate::show::show_answer;
 use crate::show::show_verdict;
 use crate::version::show_version;
 use crate::walks::Sought;
 use crate::walks::answer_walk;
-use hexadecimal::Parsed;
+use digits::Parsed;
 use lookup::look::lookup;
 
 // The longest section. With the longest stack window it fits the usual stack of 8 MiB.
@@ -28,6 +31,7 @@ const SECTION: usize = 6_291_456;
 // What is asked of a section.
 enum Question {
     Check,
+    List,
     Lookup,
     Walks(Sought),
 }
@@ -68,6 +72,9 @@ fn command_of(word: &[u8]) -> Command {
     if is_same(word, b"check") {
         return Command::Asks(Question::Check);
     }
+    if is_same(word, b"list") {
+        return Command::Asks(Question::List);
+    }
     if is_same(word, b"lookup") {
         return Command::Asks(Question::Lookup);
     }
@@ -95,9 +102,18 @@ fn are_all(given: usize, taken: usize, complaint: &[u8]) -> bool {
     false
 }
 
+// As are_all, where the last argument may be left out.
+fn are_enough(given: usize, taken: usize, complaint: &[u8]) -> bool {
+    if given < taken {
+        return are_all(given + 1, taken, complaint);
+    }
+    are_all(given, taken, complaint)
+}
+
 fn has_all(question: Question, given: usize) -> bool {
     match question {
         Question::Check => are_all(given, 1, b"sframe: 'check' takes FILE\n"),
+        Question::List => are_enough(given, 2, b"sframe: 'list' takes FILE [INDEX]\n"),
         Question::Lookup => are_all(given, 3, b"sframe: 'lookup' takes FILE ADDRESS PC\n"),
         Question::Walks(asked) => match asked {
             Sought::Caller => are_all(
@@ -124,9 +140,10 @@ fn answer_lookup(section: &[u8]) {
     show_answer(lookup(section, address, pc));
 }
 
-fn answer(question: Question, section: &[u8]) {
+fn answer(question: Question, section: &[u8], given: usize) {
     match question {
         Question::Check => show_verdict(section),
+        Question::List => answer_list(section, given),
         Question::Lookup => answer_lookup(section),
         Question::Walks(asked) => answer_walk(asked, section),
     }
@@ -137,11 +154,11 @@ fn section_room() -> [u8; SECTION + 1] {
 }
 
 // Argument 2 is the section, whatever is asked.
-fn ask(question: Question) {
+fn ask(question: Question, given: usize) {
     let mut room = section_room();
     match file_given(2, b"sframe: FILE", SECTION as u64, &mut room) {
         Loaded::Failed => {}
-        Loaded::Bytes(n) => answer(question, &room[..n]),
+        Loaded::Bytes(n) => answer(question, &room[..n], given),
     }
 }
 
@@ -160,7 +177,7 @@ fn run(word: &[u8], given: usize) {
         }
         Command::Asks(question) => {
             if has_all(question, given) {
-                ask(question);
+                ask(question, given);
             }
         }
     }

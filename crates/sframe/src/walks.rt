@@ -1,12 +1,13 @@
 // One caller, and a whole trace: the arguments that both take, and the calls.
 use crate::arguments::Loaded;
+use crate::arguments::count_given;
 use crate::arguments::file_given;
 use crate::arguments::number_given;
 use crate::show_walks::show_step;
 use crate::show_walks::show_trace;
 use caller::registers::Registers;
 use caller::registers::Where;
-use hexadecimal::Parsed;
+use digits::Parsed;
 use trace::walk::trace;
 ghost use Prim.Native.Nat.{_≤_};
 ghost use lib.ListN.{length};
@@ -94,7 +95,7 @@ fn trace_into(
 }
 
 fn answer_trace(section: &[u8], stack: &[u8], lies: Where, registers: Registers) {
-    let Parsed::Number(limit) = number_given(10, b"LIMIT") else {
+    let Parsed::Number(limit) = count_given(10, b"LIMIT") else {
         return;
     };
     let mut buffer = words_room();

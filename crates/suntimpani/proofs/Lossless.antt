@@ -1,5 +1,5 @@
--- Nothing is lost in a flat struct: each is read back as the very answer that was flattened, and so equal structs come from equal
--- answers, of any calls whatever (`check-lossless` to `trace-lossless`).
+-- Nothing is lost in a flat struct: each is read back as the very answer that was flattened, that of a function by its index as all that
+-- is shown of it, and so equal structs come from equal answers, of any calls whatever (`check-lossless` to `trace-lossless`).
 -- Assumes nothing.
 use mathlib.Core.Path.{_≡_, refl, sym, _∙_, ap}
 use mathlib.Core.Bool.{Bool, true, false, not}
@@ -7,19 +7,34 @@ use mathlib.Core.List.{List}
 use mathlib.Core.Logic.{inl, inr}
 use Prim.Native.Nat.{ℕ, _≤_}
 use native.Mathlib.Omega.{arith}
-use lib.Dec.{eqb}
+use lib.Dec.{eqb, ltb}
 use lib.ListN.{length, getD}
 use borrow.Author.Tests.{ne-eqb, lt-ltb, le-ltb}
+use Rattle.section.specs.Header.{layoutOf}
+use Rattle.section.specs.Shape.{abiOf}
 use Rattle.section.specs.declared.row.Base.{Base}
 use Rattle.section.specs.declared.row.Base.the-variants.{Fp, Sp}
 use Rattle.section.specs.declared.row.Place.{Place}
 use Rattle.section.specs.declared.row.Place.the-variants.{Register, AtOffset}
 use Rattle.section.specs.declared.row.Row.{Row}
+use Rattle.section.specs.declared.shape.Abi.{Abi}
+use Rattle.section.specs.declared.shape.Abi.the-variants.{Aarch64Big, Aarch64Little, Amd64}
 use Rattle.accept.specs.Given.{verdictNumber, verdictIndexes}
-use Rattle.accept.specs.computed.Checks.{verdict}
+use Rattle.accept.specs.computed.Checks.{givenAt, thenTry, headerFault, entriesVerdict, verdict}
+use Rattle.accept.specs.declared.verdict.Fault.{Fault}
+use Rattle.accept.specs.declared.verdict.Fault.the-variants.{Sound, Breaks}
 use Rattle.accept.specs.declared.verdict.Verdict.{Verdict}
 use Rattle.accept.specs.declared.verdict.Verdict.the-variants as verdict
 use Rattle.accept.proofs.Exactly.{verdict-number, number-of-rule}
+use Rattle.listing.specs.Functions.{factsOf, describedIn, describedBy, describedOf}
+use Rattle.listing.specs.declared.function.Described.{Described}
+use Rattle.listing.specs.declared.function.Described.the-variants as described
+use Rattle.listing.specs.declared.function.Kind.{Kind}
+use Rattle.listing.specs.declared.function.Kind.the-variants.{Plain, Repeated}
+use Rattle.listing.specs.declared.rows.NextRow.{NextRow}
+use Rattle.listing.specs.declared.rows.NextRow.the-variants.{One, NoMore}
+use Rattle.listing.specs.declared.rows.RowPlace.{RowPlace}
+use Rattle.listing.specs.declared.rows.RowTurn.{RowTurn}
 use Rattle.lookup.specs.Numbers.{numberOfUnfound, outcomeNumber, outcomeIndexes, outcomeRow}
 use Rattle.lookup.specs.computed.Answers.{lookupOf}
 use Rattle.lookup.specs.declared.answer.Answer.{Answer}
@@ -44,9 +59,11 @@ use Rattle.trace.specs.declared.answer.Ending.the-variants as ending
 use Rattle.trace.specs.declared.answer.Frame.{Frame}
 use Rattle.trace.specs.declared.answer.Traced.{Traced}
 use Rattle.trace.proofs.Exactly.{some-case}
-use Rattle.suntimpani.specs.Flat.{flatVerdict, baseNumber, placeKind, placeOffset, flag, flatRow, flatAnswer, flatStep, flatTraced, handedAs, flatTrace}
-use Rattle.suntimpani.specs.Read.{readVerdict, readBase, readPlace, readRow, readOutcome, readAnswer, readStep, isDoors, readEnding, readTraced, readTrace}
-use Rattle.suntimpani.specs.inner.Numbered.{VerdictNumbered, OutcomeNumbered, StepNumbered, EndingNumbered}
+use Rattle.suntimpani.specs.Flat.{flatVerdict, kindNumber, repeatOf, noFunction, flatFacts, flatFunction, baseNumber, placeKind, placeOffset, flag, flatRow, flatAnswer, flatStep, flatTraced, handedAs, flatTrace}
+use Rattle.suntimpani.specs.FlatRows.{abiNumber, flatPlace, flatNext, flatYield, flatTurn}
+use Rattle.suntimpani.specs.Read.{readVerdict, readKind, readKnown, readFunction, readBase, readPlace, readRow, readRows, readYielded, readNext, readTurn, readOutcome, readAnswer, readStep, isDoors, readEnding, readTraced, readTrace}
+use Rattle.suntimpani.specs.Shown.{Shown, shownFacts, shownOf, known}
+use Rattle.suntimpani.specs.inner.Numbered.{VerdictNumbered, DescribedNumbered, OutcomeNumbered, StepNumbered, EndingNumbered}
 
 -- ---- verdicts
 
@@ -55,6 +72,23 @@ unfolding readVerdict flatVerdict verdictNumber verdictIndexes
 read-verdict verdict.Accepted numbered = refl
 read-verdict (verdict.Refused number index) numbered =
     let other : ¬ (number ≡ 0) = λ is. omega (arith, numbered .0, is) in rw (ne-eqb number 0 other, readVerdict) refl
+
+-- ---- functions
+
+read-kind : (kind : Kind) → readKind (kindNumber kind) (repeatOf kind) ≡ kind
+unfolding readKind kindNumber repeatOf
+read-kind Plain = refl
+read-kind (Repeated size) = refl
+
+-- all that is shown of it
+pub read-function : (d : Described) → DescribedNumbered d → readFunction (flatFunction d) ≡ shownOf d
+unfolding readFunction readKnown flatFunction noFunction flatFacts shownFacts shownOf
+read-function (described.Unsound number) numbered =
+    let other : ¬ (number ≡ 0) = λ is. omega (arith, numbered .0, is) in rw (ne-eqb number 0 other, readFunction) refl
+read-function described.Unknown numbered = refl
+read-function (described.Function facts) numbered =
+    ap (λ (kind : Kind). known (record { start = facts .start .by; size = facts .size; rows = facts .rows .left; kind = kind }))
+    (read-kind (facts .kind))
 
 -- ---- rows
 
@@ -84,6 +118,45 @@ read-row number function second compared k row i =
       fp = read-place (row .fp) i;
       signed = read-flag (row .signed) i;
     }
+
+-- ---- rows one at a time
+
+read-abi : (abi : Abi) → abiOf (abiNumber abi) ≡ abi
+unfolding abiOf abiNumber
+read-abi Aarch64Big = refl
+read-abi Aarch64Little = refl
+read-abi Amd64 = refl
+
+pub place-read-back : (place : RowPlace) → readRows (flatPlace place) ≡ place
+unfolding readRows flatPlace
+place-read-back place i = record { abi = read-abi (place .abi) i; code = place .code; at = place .at; left = place .left }
+
+read-yielded : (more : ℕ) (row : Row) (place : RowPlace) → readYielded (flatNext more row place) ≡ row
+unfolding readYielded flatNext
+read-yielded more row place i =
+    record {
+      start = row .start;
+      base = read-base (row .base) i;
+      cfa = row .cfa;
+      ra = read-place (row .ra) i;
+      fp = read-place (row .fp) i;
+      signed = read-flag (row .signed) i;
+    }
+
+read-next : (next : NextRow) (place : RowPlace) → readNext (flatYield next place) ≡ next
+unfolding readNext flatYield flatNext
+read-next (One row) place = ap One (read-yielded 1 row place)
+read-next NoMore place = refl
+
+read-rest : (next : NextRow) (place : RowPlace) → readRows (flatYield next place .rest) ≡ place
+unfolding flatYield flatNext
+read-rest (One row) place = place-read-back place
+read-rest NoMore place = place-read-back place
+
+-- whatever row it yields, and wherever it leaves the reader
+pub turn-read-back : (turn : RowTurn) → readTurn (flatTurn turn) ≡ turn
+unfolding readTurn flatTurn
+turn-read-back turn i = record { next = read-next (turn .next) (turn .place) i; place = read-rest (turn .next) (turn .place) i }
 
 -- ---- lookups
 
@@ -153,6 +226,18 @@ verdict-numbered s = by (verdict s) refl
     by verdict.Accepted is = tt
     by (verdict.Refused number index) is = verdict-number s number index is
 
+described-numbered : (s : List ℕ) (index : ℕ) → DescribedNumbered (describedOf s index)
+unfolding describedOf describedBy describedIn verdict givenAt thenTry
+described-numbered s index = by (headerFault s) refl
+  where
+    inside : (b : Bool) → DescribedNumbered (elim b [ true ↦ described.Function (factsOf s index) | false ↦ described.Unknown ])
+    inside true = tt
+    inside false = tt
+
+    by : (fault : Fault) → headerFault s ≡ fault → DescribedNumbered (describedBy fault s index)
+    by Sound is = inside (ltb index (layoutOf s .functions))
+    by (Breaks number) is = verdict-number s number 0 (ap (λ fault. thenTry (givenAt 0 fault) (entriesVerdict s)) is)
+
 outcome-numbered : (s : List ℕ) (address pc : ℕ) → OutcomeNumbered (lookupOf s address pc .outcome)
 outcome-numbered s address pc = by (lookupOf s address pc .outcome) refl
   where
@@ -199,6 +284,9 @@ module _ (s stack : List ℕ) (lies : Where) (registers : Registers) where
 pub check-read-back : (s : List ℕ) → readVerdict (flatVerdict (verdict s)) ≡ verdict s
 check-read-back s = read-verdict (verdict s) (verdict-numbered s)
 
+pub function-read-back : (s : List ℕ) (index : ℕ) → readFunction (flatFunction (describedOf s index)) ≡ shownOf (describedOf s index)
+function-read-back s index = read-function (describedOf s index) (described-numbered s index)
+
 pub lookup-read-back : (s : List ℕ) (address pc : ℕ) → readAnswer (flatAnswer (lookupOf s address pc)) ≡ lookupOf s address pc
 lookup-read-back s address pc = read-answer (lookupOf s address pc) (outcome-numbered s address pc)
 
@@ -219,6 +307,19 @@ lossless flat read one other back also same = sym back ∙ ap read same ∙ also
 
 pub check-lossless : (s t : List ℕ) → flatVerdict (verdict s) ≡ flatVerdict (verdict t) → verdict s ≡ verdict t
 check-lossless s t = lossless flatVerdict readVerdict (verdict s) (verdict t) (check-read-back s) (check-read-back t)
+
+-- nothing of what is shown
+pub function-lossless : (s t : List ℕ) (index other : ℕ)
+    → flatFunction (describedOf s index) ≡ flatFunction (describedOf t other) → shownOf (describedOf s index) ≡ shownOf (describedOf t other)
+function-lossless s t index other same =
+    sym (function-read-back s index) ∙ ap readFunction same ∙ function-read-back t other
+
+-- of any two places and any two turns
+pub place-lossless : (one other : RowPlace) → flatPlace one ≡ flatPlace other → one ≡ other
+place-lossless one other = lossless flatPlace readRows one other (place-read-back one) (place-read-back other)
+
+pub turn-lossless : (one other : RowTurn) → flatTurn one ≡ flatTurn other → one ≡ other
+turn-lossless one other = lossless flatTurn readTurn one other (turn-read-back one) (turn-read-back other)
 
 pub lookup-lossless : (s t : List ℕ) (address other pc also : ℕ)
     → flatAnswer (lookupOf s address pc) ≡ flatAnswer (lookupOf t other also) → lookupOf s address pc ≡ lookupOf t other also

@@ -12,6 +12,11 @@ use Rattle.section.specs.declared.row.Place.the-variants.{Register, AtOffset}
 use Rattle.section.specs.declared.row.Row.{Row}
 use Rattle.accept.specs.Given.{verdictNumber, verdictIndexes}
 use Rattle.accept.specs.declared.verdict.Verdict.{Verdict}
+use Rattle.listing.specs.declared.function.Described.{Described}
+use Rattle.listing.specs.declared.function.Described.the-variants.{Unsound, Unknown, Function}
+use Rattle.listing.specs.declared.function.Facts.{Facts}
+use Rattle.listing.specs.declared.function.Kind.{Kind}
+use Rattle.listing.specs.declared.function.Kind.the-variants.{Plain, Repeated}
 use Rattle.lookup.specs.Numbers.{outcomeNumber, outcomeIndexes, outcomeRow}
 use Rattle.lookup.specs.declared.answer.Answer.{Answer}
 use Rattle.caller.specs.Numbers.{stepNumber, stepIndexes, stepRegisters}
@@ -21,12 +26,45 @@ use Rattle.trace.specs.Numbers.{endingNumber, endingIndexes}
 use Rattle.trace.specs.declared.answer.Traced.{Traced}
 use Rattle.suntimpani.specs.declared.flat.AnswerInC.{AnswerInC}
 use Rattle.suntimpani.specs.declared.flat.VerdictInC.{VerdictInC}
+use Rattle.suntimpani.specs.declared.functions.FunctionInC.{FunctionInC}
 use Rattle.suntimpani.specs.declared.walks.StepInC.{StepInC}
 use Rattle.suntimpani.specs.declared.walks.TracedInC.{TracedInC}
 
 -- number 0 is accepted
 unfoldable pub flatVerdict : Verdict → VerdictInC
 flatVerdict verdict = record { number = verdictNumber verdict; index = getD (verdictIndexes verdict) 0 0 }
+
+-- ---- a function by its index
+
+unfoldable pub kindNumber : Kind → ℕ
+kindNumber Plain = 0
+kindNumber (Repeated size) = 1
+
+unfoldable pub repeatOf : Kind → ℕ
+repeatOf Plain = 0
+repeatOf (Repeated size) = size
+
+-- what stands in the struct where there is no such function: the number of a broken rule of the header, 0 where it breaks none
+unfoldable pub noFunction : ℕ → FunctionInC
+noFunction number = record { number = number; known = 0; start = pos 0; size = 0; rows = 0; repeated = 0; repeat = 0 }
+
+-- and where there is one. Of its rows C is told how many there are, and not where they stand
+unfoldable pub flatFacts : Facts → FunctionInC
+flatFacts facts =
+    record {
+      number = 0;
+      known = 1;
+      start = facts .start .by;
+      size = facts .size;
+      rows = facts .rows .left;
+      repeated = kindNumber (facts .kind);
+      repeat = repeatOf (facts .kind);
+    }
+
+unfoldable pub flatFunction : Described → FunctionInC
+flatFunction (Unsound number) = noFunction number
+flatFunction Unknown = noFunction 0
+flatFunction (Function facts) = flatFacts facts
 
 -- ---- a row
 

@@ -49,7 +49,7 @@ pub fn flat_verdict(answer: Verdict) -> VerdictInC
     }
 }
 
-fn base_number(base: Base) -> u64
+pub fn base_number(base: Base) -> u64
     ensures { λ r. ⌜ r ≡ baseNumber base ⌝ }
 {
     match base {
@@ -58,7 +58,7 @@ fn base_number(base: Base) -> u64
     }
 }
 
-fn place_kind(place: Place) -> u64
+pub fn place_kind(place: Place) -> u64
     ensures { λ r. ⌜ r ≡ placeKind place ⌝ }
 {
     match place {
@@ -67,7 +67,7 @@ fn place_kind(place: Place) -> u64
     }
 }
 
-fn place_offset(place: Place) -> Offset
+pub fn place_offset(place: Place) -> Offset
     ensures { λ r. ⌜ r ≡ placeOffset place ⌝ }
 {
     match place {
@@ -76,7 +76,7 @@ fn place_offset(place: Place) -> Offset
     }
 }
 
-fn flag_of(set: bool) -> u64
+pub fn flag_of(set: bool) -> u64
     ensures { λ r. ⌜ r ≡ flag set ⌝ }
 {
     if set {
@@ -86,7 +86,7 @@ fn flag_of(set: bool) -> u64
 }
 
 // What stands in the fields of a row where none was found: it flattens to 0 in each.
-fn empty_row() -> Row
+pub fn empty_row() -> Row
     ensures { λ r. ⌜ r ≡ emptyRow ⌝ }
 {
     Row {

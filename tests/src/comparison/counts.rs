@@ -1,30 +1,49 @@
-//! How often each of the four calls was compared, by the number that it answered with.
+//! How often each of the seven calls was compared, by the number that it answered with.
 #![forbid(unsafe_code)]
 
 use std::collections::BTreeMap;
 use std::fmt;
 
-/// The four calls of the library, in the order of the table's columns.
+/// Stands in a number's place where a section has no function with the index, where it leaves no rows to be read, and
+/// where there are no more rows: the answer has no number of its own then, or 0, as it has where there is one.
+pub const NONE: u64 = u64::MAX;
+
+/// The highest number of document 01.
+const HIGHEST: u64 = 43;
+
+/// How many calls there are.
+const COUNT: usize = 7;
+
+/// The seven calls of the library, in the order of the table's columns.
 #[derive(Clone, Copy, Debug, PartialEq, Eq)]
 pub enum Call {
     Check,
+    FunctionAt,
+    RowsOf,
+    NextRow,
     Lookup,
     Caller,
     Trace,
 }
 
 impl Call {
-    pub const ALL: [Call; 4] = [Call::Check, Call::Lookup, Call::Caller, Call::Trace];
+    pub const ALL: [Call; COUNT] =
+        [Call::Check, Call::FunctionAt, Call::RowsOf, Call::NextRow, Call::Lookup, Call::Caller, Call::Trace];
 
     pub fn name(self) -> &'static str {
-        ["check", "lookup", "caller", "trace"][self as usize]
+        ["check", "function_at", "rows_of", "next_row", "lookup", "caller", "trace"][self as usize]
     }
 
-    /// Whether document 01 lets the call answer with a number; 0 is accepted, found or a caller.
+    /// Whether the call may answer with a number; 0 is accepted, known, found, a row or a caller.
     pub fn gives(self, number: u64) -> bool {
-        let of_section = (1..=15).contains(&number);
+        let of_section = match self {
+            Call::FunctionAt => (1..=8).contains(&number),
+            Call::RowsOf | Call::NextRow => false,
+            Call::Check | Call::Lookup | Call::Caller | Call::Trace => (1..=15).contains(&number),
+        };
         let others: &[u64] = match self {
             Call::Check => &[0],
+            Call::FunctionAt | Call::RowsOf | Call::NextRow => &[0, NONE],
             Call::Lookup => &[0, 21, 22, 23],
             Call::Caller => &[0, 21, 22, 23, 24, 25, 26, 27, 28, 41],
             Call::Trace => &[21, 22, 23, 24, 25, 26, 27, 28, 30, 31, 41, 42, 43],
@@ -35,7 +54,7 @@ impl Call {
 
 /// For each number, how often each call answered with it.
 #[derive(Clone, Debug, Default, PartialEq, Eq)]
-pub struct Counts(BTreeMap<u64, [u64; 4]>);
+pub struct Counts(BTreeMap<u64, [u64; COUNT]>);
 
 impl Counts {
     pub fn count(&mut self, call: Call, number: u64) {
@@ -62,7 +81,8 @@ impl Counts {
 
     /// What a call answers with too seldom, or may never answer with and did: none where the comparison tried enough.
     pub fn lacking(&self, enough: u64) -> Vec<String> {
-        let numbers: Vec<u64> = (0..=43).chain(self.0.keys().copied().filter(|number| *number > 43)).collect();
+        let above = self.0.keys().copied().filter(|number| (HIGHEST + 1..NONE).contains(number));
+        let numbers: Vec<u64> = every_number().chain(above).collect();
         let cells = Call::ALL.into_iter().flat_map(|call| numbers.iter().map(move |number| (call, *number)));
         let lacks = |(call, number): &(Call, u64)| {
             let count = self.of(*call, *number);
@@ -72,8 +92,21 @@ impl Counts {
                 count > 0
             }
         };
-        let said = |(call, number): (Call, u64)| format!("{} {number}: {}", call.name(), self.of(call, number));
+        let said =
+            |(call, number): (Call, u64)| format!("{} {}: {}", call.name(), shown(number), self.of(call, number));
         cells.filter(lacks).map(said).collect()
+    }
+}
+
+fn every_number() -> impl Iterator<Item = u64> {
+    (0..=HIGHEST).chain([NONE])
+}
+
+fn shown(number: u64) -> String {
+    if number == NONE {
+        "none".to_string()
+    } else {
+        number.to_string()
     }
 }
 
@@ -82,8 +115,8 @@ impl fmt::Display for Counts {
     fn fmt(&self, to: &mut fmt::Formatter) -> fmt::Result {
         write!(to, "number")?;
         Call::ALL.iter().try_for_each(|call| write!(to, "{:>12}", call.name()))?;
-        for number in (0..=43).filter(|&number| Call::ALL.iter().any(|call| call.gives(number))) {
-            write!(to, "\n{number:>6}")?;
+        for number in every_number().filter(|&number| Call::ALL.iter().any(|call| call.gives(number))) {
+            write!(to, "\n{:>6}", shown(number))?;
             self.cells(to, number)?;
         }
         write!(to, "\n   all")?;
@@ -113,7 +146,7 @@ mod tests {
     fn every_number_once() -> Counts {
         let mut counts = Counts::default();
         for call in Call::ALL {
-            (0..=43).filter(|&number| call.gives(number)).for_each(|number| counts.count(call, number));
+            every_number().filter(|&number| call.gives(number)).for_each(|number| counts.count(call, number));
         }
         counts
     }
@@ -131,18 +164,28 @@ mod tests {
     fn what_may_never_come_is_named() {
         let mut counts = every_number_once();
         counts.count(Call::Check, 21);
+        counts.count(Call::FunctionAt, 9);
+        counts.count(Call::NextRow, 1);
         counts.count(Call::Lookup, 44);
-        assert_eq!(counts.lacking(1), ["check 21: 1", "lookup 44: 1"]);
+        counts.count(Call::Caller, NONE);
+        assert_eq!(
+            counts.lacking(1),
+            ["check 21: 1", "function_at 9: 1", "next_row 1: 1", "lookup 44: 1", "caller none: 1"]
+        );
     }
 
     #[test]
     fn the_table_has_a_line_for_each_number() {
         let table = every_number_once().to_string();
         let lines: Vec<&str> = table.lines().collect();
-        assert_eq!(lines.len(), 1 + 1 + 15 + 8 + 2 + 3 + 1);
-        assert_eq!(lines[0], "number       check      lookup      caller       trace");
-        assert_eq!(lines[1], "     0           1           1           1           -");
-        assert_eq!(lines[29], "    43           -           -           -           1");
-        assert_eq!(lines[30], "   all          16          19          25          28");
+        assert_eq!(lines.len(), 1 + 1 + 15 + 8 + 2 + 3 + 1 + 1);
+        let line = |first: &str, cells: [&str; COUNT]| {
+            cells.iter().fold(format!("{first:>6}"), |line, cell| format!("{line}{cell:>12}"))
+        };
+        assert_eq!(lines[0], line("number", Call::ALL.map(Call::name)));
+        assert_eq!(lines[1], line("0", ["1", "1", "1", "1", "1", "1", "-"]));
+        assert_eq!(lines[29], line("43", ["-", "-", "-", "-", "-", "-", "1"]));
+        assert_eq!(lines[30], line("none", ["-", "1", "1", "1", "-", "-", "-"]));
+        assert_eq!(lines[31], line("all", ["16", "10", "2", "2", "19", "25", "28"]));
     }
 }

@@ -1,11 +1,23 @@
-//! Four calls of the library's form that do nothing: what they use of a stack, the form itself uses.
+//! Seven calls of the library's form that do nothing: what they use of a stack, the form itself uses.
 
-use super::{Answer, Calls, Registers, Step, Traced, Verdict, Where};
+use super::{Answer, Calls, Function, Registers, Row, Rows, Step, Traced, Verdict, Where};
 
-pub const EMPTY: Calls = Calls { check, lookup, caller, trace };
+pub const EMPTY: Calls = Calls { check, function_at, rows_of, next_row, lookup, caller, trace };
 
 extern "C" fn check(_: *const u8, _: usize) -> Verdict {
     Verdict { number: 0, index: 0 }
+}
+
+extern "C" fn function_at(_: *const u8, _: usize, _: u64) -> Function {
+    Function::default()
+}
+
+extern "C" fn rows_of(_: *const u8, _: usize, _: u64) -> Rows {
+    Rows::default()
+}
+
+extern "C" fn next_row(_: *const u8, _: usize, _: Rows) -> Row {
+    Row::default()
 }
 
 extern "C" fn lookup(_: *const u8, _: usize, _: u64, _: u64) -> Answer {

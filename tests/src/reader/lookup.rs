@@ -109,6 +109,10 @@ impl<'a> Checked<'a> {
         self.0.order
     }
 
+    pub(super) fn parts(&self) -> &Parts<'_> {
+        &self.0
+    }
+
     /// The row for a PC where the section is loaded at an address.
     pub fn find(&self, address: u64, pc: u64) -> Answer {
         let d = distance(address, pc);
@@ -198,7 +202,7 @@ fn distance(address: u64, pc: u64) -> i64 {
 }
 
 // How many bytes the offsets of a row have, by its info.
-fn offset_bytes(info: u8) -> usize {
+pub(super) fn offset_bytes(info: u8) -> usize {
     usize::from(info >> 1 & 0xf) << (info >> 5 & 0x3)
 }
 

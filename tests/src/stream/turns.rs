@@ -1,13 +1,14 @@
 //! Turns: a section each, and all that is asked of it. A turn is found again by the seed and its own number.
 #![forbid(unsafe_code)]
 
-use super::{questions, section, walkable, walks, Random};
+use super::{indexes, places, questions, section, walkable, walks, Random};
+use crate::reader::{next_row, RowsAt};
 use crate::walk::Walk;
 
 /// The most bytes that document 01 allows a section.
 const MOST_BYTES: usize = 16_777_216;
 
-/// A section, and the lookups and walks to be made in it.
+/// A section, and the functions and rows to be asked for, the lookups and the walks to be made in it.
 #[derive(Clone, Debug, PartialEq, Eq)]
 pub struct Turn {
     pub section: Vec<u8>,
@@ -16,6 +17,10 @@ pub struct Turn {
     /// An address and a PC each.
     pub questions: Vec<(u64, u64)>,
     pub walks: Vec<Walk>,
+    /// Of functions.
+    pub indexes: Vec<u64>,
+    /// From which a row is asked for.
+    pub places: Vec<RowsAt>,
 }
 
 /// The turn of that number: every fifth one with walks, two thirds of those in a section made to be walked in, and one
@@ -27,7 +32,9 @@ pub fn turn(seed: u64, number: u64) -> Turn {
         return too_long(random, section);
     }
     let walks = if number.is_multiple_of(5) { walks(random, &section) } else { Vec::new() };
-    Turn { length: section.len(), questions: questions(random, &section), walks, section }
+    let questions = questions(random, &section);
+    let (indexes, places) = (indexes(random, &section), places(random, &section));
+    Turn { length: section.len(), questions, walks, indexes, places, section }
 }
 
 // Turns of one seed share nothing with those of the next.
@@ -42,7 +49,10 @@ fn too_long(random: &mut Random, section: Vec<u8>) -> Turn {
     let length = random.pick(&lengths);
     // What is asked is what a refused section is asked: its length alone decides.
     let (questions, walks) = (questions(random, &[]), walks(random, &[]));
-    Turn { section, length, questions, walks }
+    let (indexes, mut places) = (indexes(random, &section), places(random, &section));
+    // A row is told also where the section is too long; behind the section's own bytes anything may stand.
+    places.retain(|&place| next_row(&section, place).row.is_some());
+    Turn { length, questions, walks, indexes, places, section }
 }
 
 #[cfg(test)]
@@ -65,5 +75,6 @@ mod tests {
         let walked = turns.iter().filter(|turn| !turn.walks.is_empty()).count();
         assert_eq!((long, walked), (1, 4));
         assert!(turns.iter().all(|turn| turn.length >= turn.section.len() && !turn.questions.is_empty()));
+        assert!(turns.iter().all(|turn| turn.indexes.len() >= 10));
     }
 }

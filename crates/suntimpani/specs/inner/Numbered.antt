@@ -5,6 +5,8 @@ use mathlib.Core.Bool.{false}
 use mathlib.Core.Logic.{_⊎_}
 use Rattle.accept.specs.declared.verdict.Verdict.{Verdict}
 use Rattle.accept.specs.declared.verdict.Verdict.the-variants as verdict
+use Rattle.listing.specs.declared.function.Described.{Described}
+use Rattle.listing.specs.declared.function.Described.the-variants as described
 use Rattle.lookup.specs.declared.answer.Outcome.{Outcome}
 use Rattle.lookup.specs.declared.answer.Outcome.the-variants as outcome
 use Rattle.caller.specs.declared.registers.Step.{Step}
@@ -20,6 +22,11 @@ OfSection number = (1 ≤ number) × (number ≤ 15)
 abbrev pub VerdictNumbered : Verdict → Type 0
 VerdictNumbered verdict.Accepted = Unit {0}
 VerdictNumbered (verdict.Refused number index) = OfSection number
+
+abbrev pub DescribedNumbered : Described → Type 0
+DescribedNumbered (described.Unsound number) = OfSection number
+DescribedNumbered described.Unknown = Unit {0}
+DescribedNumbered (described.Function facts) = Unit {0}
 
 abbrev pub OutcomeNumbered : Outcome → Type 0
 OutcomeNumbered (outcome.Found row function number) = Unit {0}

@@ -16,7 +16,9 @@ fn main() {
     let libsframe = Libsframe::open();
     table::print_head();
     let sections = sections::all();
-    for times in [times::of_check, times::of_find, times::of_caller, times::of_trace] {
+    let calls =
+        [times::of_check, times::of_listing, times::of_entry, times::of_find, times::of_caller, times::of_trace];
+    for times in calls {
         for section in &sections {
             times(section, libsframe.as_ref().ok()).iter().for_each(Line::print);
         }
@@ -31,6 +33,12 @@ fn main() {
 fn print_notes(no_libsframe: Option<String>) {
     println!(
         "Times are medians of the rounds, ratios medians of the rounds' ratios; all ways take turns in each round."
+    );
+    println!(
+        "list: all lines of a section, each folded into a digest; one check's time is taken off, and stands above."
+    );
+    println!(
+        "entry: a function by its index, of 1,000 indexes all over the section; the header is checked by each call."
     );
     println!("find: a lookup in a section that was checked once. caller, trace: one call with its check.");
     println!("frame: one of a trace's 64 frames, the check taken off, where it is not lost in the check's time.");

@@ -11,6 +11,9 @@ const SEED: u64 = 20_260_102;
 /// How many frames a timed trace has.
 pub const FRAMES: u64 = 64;
 
+/// How many functions the section has that is made to be listed.
+const LISTED: usize = 150_000;
+
 const SIZES: [usize; 5] = [100, 1_000, 10_000, 100_000, 838_859];
 
 /// A section, and what is asked of it.
@@ -23,19 +26,32 @@ pub struct Timed {
     pub walk: Option<Walk>,
     /// Whether its check is a line of its own.
     pub checked: bool,
+    /// Whether its listing is timed.
+    pub listed: bool,
 }
 
-/// Sections of every size by one construction, one that is not sorted, a large one of the corpus and, for the frames of
-/// a trace, two small ones.
+/// Sections of every size by one construction, one that is not sorted, a large one of the corpus, one of many rows to be
+/// listed and, for the frames of a trace, two small ones.
 pub fn all() -> Vec<Timed> {
     let mut all: Vec<Timed> = SIZES.map(|count| whole(name_of(count, ""), large::many_functions(count).bytes())).into();
-    all.push(whole("GNU as: 2,689 functions".to_string(), cases::corpus_section("gas_exe")));
+    let gas = whole("GNU as: 2,689 functions".to_string(), cases::corpus_section("gas_exe"));
+    all.push(Timed { listed: true, ..gas });
+    let bytes = large::functions_of_four_rows(LISTED).bytes();
+    let name = name_of(LISTED, ", 4 rows each");
+    all.push(Timed { name, bytes, pcs: Vec::new(), walk: None, checked: true, listed: true });
     let unsorted = large::many_functions_unsorted(1_000).bytes();
     let pcs = pcs_over(&unsorted, 10_000);
-    all.push(Timed { name: name_of(1_000, ", not sorted"), bytes: unsorted, pcs, walk: None, checked: false });
+    all.push(Timed {
+        name: name_of(1_000, ", not sorted"),
+        bytes: unsorted,
+        pcs,
+        walk: None,
+        checked: false,
+        listed: false,
+    });
     let of_traces = |name: &str, bytes, walk| {
         let name = name.to_string();
-        Timed { name, bytes, pcs: Vec::new(), walk: Some(walk), checked: false }
+        Timed { name, bytes, pcs: Vec::new(), walk: Some(walk), checked: false, listed: false }
     };
     all.push(of_traces("S of document 01, one function calls itself", cases::S.to_vec(), calls_itself()));
     let big = small_big_endian();
@@ -46,7 +62,7 @@ pub fn all() -> Vec<Timed> {
 
 fn whole(name: String, bytes: Vec<u8>) -> Timed {
     let walk = laid::through(&bytes, FRAMES as usize, SEED);
-    Timed { name, pcs: pcs_over(&bytes, 100_000), walk: Some(walk), bytes, checked: true }
+    Timed { name, pcs: pcs_over(&bytes, 100_000), walk: Some(walk), bytes, checked: true, listed: false }
 }
 
 fn name_of(count: usize, more: &str) -> String {

@@ -1,12 +1,12 @@
-//! How much stack the four calls use: each is made on a painted stack, beside an empty call of the same form, over
+//! How much stack the seven calls use: each is made on a painted stack, beside an empty call of the same form, over
 //! sections small and large, sound and damaged.
 
 use crate::table;
 use std::hint::black_box;
 use suntimpani_tests::comparison::Call;
-use suntimpani_tests::library::{empty::EMPTY, Calls, LIBRARY};
+use suntimpani_tests::library::{empty::EMPTY, Calls, Rows, LIBRARY};
 use suntimpani_tests::painted::Painted;
-use suntimpani_tests::stream::{turn, Turn};
+use suntimpani_tests::stream::{indexes, places, turn, Random, Turn};
 use suntimpani_tests::walk::{lent, Walk};
 use suntimpani_tests::{cases, laid, large, ADDRESS};
 
@@ -20,7 +20,7 @@ const MOST_FRAMES: usize = 256;
 #[derive(Default)]
 struct Most {
     painted: Painted,
-    of_calls: [(usize, usize); 4],
+    of_calls: [(usize, usize); Call::ALL.len()],
 }
 
 pub fn print_lines() {
@@ -39,11 +39,20 @@ fn of_cases() -> impl Iterator<Item = Turn> {
         length: case.section.len(),
         questions: case.questions.iter().map(|question| (question.address, question.pc)).collect(),
         walks: case.walks.into_iter().map(|(walk, _)| walk).collect(),
+        indexes: indexes(&mut Random::new(SEED), &case.section),
+        places: places(&mut Random::new(SEED), &case.section),
         section: case.section,
     };
     let gas = cases::corpus_section("gas_exe");
     let walks = vec![laid::through(&gas, MOST_FRAMES, SEED)];
-    let deep = Turn { length: gas.len(), questions: vec![(ADDRESS, ADDRESS)], walks, section: gas };
+    let deep = Turn {
+        length: gas.len(),
+        questions: vec![(ADDRESS, ADDRESS)],
+        walks,
+        indexes: vec![0],
+        places: Vec::new(),
+        section: gas,
+    };
     cases::all().into_iter().chain(at_the_limit).map(of_case).chain([deep])
 }
 
@@ -52,6 +61,15 @@ impl Most {
     fn measure(&mut self, turn: &Turn) {
         let section = &turn.section[..];
         self.take(Call::Check, |calls| discard(calls.check(section)));
+        for &index in &turn.indexes {
+            self.take(Call::FunctionAt, |calls| discard(calls.function_at(section, index)));
+            self.take(Call::RowsOf, |calls| discard(calls.rows_of(section, index)));
+            let rows = LIBRARY.rows_of(section, index);
+            self.take(Call::NextRow, |calls| discard(calls.next_row(section, rows)));
+        }
+        for place in &turn.places {
+            self.take(Call::NextRow, |calls| discard(calls.next_row(section, Rows::of(place))));
+        }
         for &(address, pc) in &turn.questions {
             self.take(Call::Lookup, |calls| discard(calls.lookup(section, address, pc)));
         }

@@ -7,7 +7,7 @@ use crate::table::Line;
 use std::hint::black_box;
 use suntimpani_tests::library::{self, LIBRARY};
 use suntimpani_tests::libsframe::{Decoded, Libsframe};
-use suntimpani_tests::measured::{by_library, by_reader, Measured};
+use suntimpani_tests::measured::{by_library, by_reader, listed_by_library, listed_by_reader, Measured};
 use suntimpani_tests::reader::{self, Block, Checked, Outcome, Verdict};
 use suntimpani_tests::timing::{turn_about, Times, Way};
 use suntimpani_tests::walk::{lent, Walk};
@@ -16,9 +16,13 @@ use suntimpani_tests::{cases, ADDRESS};
 const ROUNDS: usize = 101;
 const ROUNDS_OF_FINDS: usize = 31;
 
-/// Finds by the library are those of the reader where every kind of answer comes, refused sections too.
+/// How many functions are asked for by their indexes.
+const ENTRIES: u64 = 1_000;
+
+/// Finds and listings by the library are those of the reader where every kind of answer comes, refused sections too.
 pub fn assert_alike_on_stored_cases() {
     for case in cases::all() {
+        assert_eq!(listed_by_library(&case.section), listed_by_reader(&case.section), "{}", case.name);
         for question in &case.questions {
             let (section, address, pc) = (&case.section, question.address, [question.pc]);
             assert_eq!(by_library(section, address, &pc), by_reader(section, address, &pc), "{}, {pc:x?}", case.name);
@@ -44,6 +48,41 @@ pub fn of_check(timed: &Timed, libsframe: Option<&Libsframe>) -> Vec<Line> {
         }
     };
     vec![line("check", timed, times)]
+}
+
+/// All lines of a section behind one check; the time of a check alone is taken off round by round.
+pub fn of_listing(timed: &Timed, _: Option<&Libsframe>) -> Vec<Line> {
+    if !timed.listed {
+        return Vec::new();
+    }
+    let section = &timed.bytes[..];
+    assert_eq!(listed_by_library(section), listed_by_reader(section), "{}", timed.name);
+    let mut library = || discard(listed_by_library(black_box(section)));
+    let mut library_check = || discard(LIBRARY.check(black_box(section)));
+    let mut reader = || discard(listed_by_reader(black_box(section)));
+    let mut reader_check = || discard(reader::check(black_box(section)));
+    let ways = &mut [&mut library as Way, &mut library_check, &mut reader, &mut reader_check];
+    let times = turn_about(ROUNDS, ways);
+    vec![line("list", timed, vec![times[0].above(&times[1]), times[2].above(&times[3])])]
+}
+
+/// A function by its index, of indexes all over the section.
+pub fn of_entry(timed: &Timed, _: Option<&Libsframe>) -> Vec<Line> {
+    if !timed.checked {
+        return Vec::new();
+    }
+    let section = &timed.bytes[..];
+    let count = reader::functions(section).len() as u64;
+    let indexes: Vec<u64> = (0..ENTRIES).map(|place| place * count / ENTRIES).collect();
+    for &index in &indexes {
+        let told = reader::function_at(section, index);
+        assert!(told.known, "{}, function {index}", timed.name);
+        assert_eq!(LIBRARY.function_at(section, index), library::Function::of(&told), "{}", timed.name);
+    }
+    let mut library = || indexes.iter().for_each(|index| discard(LIBRARY.function_at(black_box(section), *index)));
+    let mut reader = || indexes.iter().for_each(|index| discard(reader::function_at(black_box(section), *index)));
+    let times = turn_about(ROUNDS, &mut [&mut library, &mut reader]);
+    vec![line("entry", timed, times.iter().map(|times| times.divided_by(indexes.len())).collect())]
 }
 
 /// Many lookups behind one check; the time of the check alone is taken off round by round.

@@ -1,0 +1,11 @@
+pub mod AfterLaws
+pub mod FunctionLaws
+pub mod LineLaws
+pub mod LinesLeft
+pub mod ListingLaws
+pub mod PlaceLaws
+pub mod ReadBack
+pub mod RowMeaning
+pub mod RowsLeft
+pub mod TurnLaws
+pub mod WholeLaws

@@ -1,0 +1,3 @@
+-- What only the code and its proofs speak of.
+pub mod Opened
+pub mod Requires
