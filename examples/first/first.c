@@ -1,4 +1,5 @@
-/* A first program with Suntimpani: checks a small section, asks which row covers a PC, and walks a stack of two frames.
+/* A first program with Suntimpani: checks a small section, asks which row covers a PC and where that function lies, and
+ * walks a stack of two frames.
  *
  *     cc first.c -lsuntimpani && ./a.out
  */
@@ -60,6 +61,18 @@ static int look_up(uint64_t pc) {
     return 0;
 }
 
+/* Where does a function lie that an answer names? Who has the symbols finds its name by that address. */
+static int place(uint64_t index) {
+    suntimpani_function function = suntimpani_function_at(section, sizeof section, index);
+    if (function.known == 0) {
+        printf("function %" PRIu64 ": refused by rule %" PRIu64 ", or not there\n", index, function.number);
+        return 1;
+    }
+    printf("function %" PRIu64 " has %" PRIu64 " bytes from 0x%" PRIx64 " on\n", index, function.size,
+           SECTION_ADDRESS + (uint64_t)function.start);
+    return 0;
+}
+
 /* Who called whom? The crash was in function 1, at 0x401044. */
 static int walk(void) {
     enum { LIMIT = 64 };
@@ -79,5 +92,5 @@ static int walk(void) {
 }
 
 int main(void) {
-    return check_section() || look_up(0x401003) || look_up(0x401008) || walk();
+    return check_section() || look_up(0x401003) || look_up(0x401008) || place(0) || walk();
 }

@@ -6,9 +6,11 @@ use std::fs;
 use suntimpani_tests::cases::{self, corpus_section, Case, CORPUS_VERDICTS, S};
 use suntimpani_tests::dump::Dump;
 use suntimpani_tests::in_repository;
+use suntimpani_tests::large;
 use suntimpani_tests::maker::{self, Machine, Section};
 use suntimpani_tests::program::{counted, on_two_threads, Folder};
 use suntimpani_tests::reader::{self, Base, Block, Function, Header, Place, Row, Verdict};
+use suntimpani_tests::stream::turn;
 use suntimpani_tests::words::{self, wrong};
 
 // The whole section, in a file of its name.
@@ -40,6 +42,21 @@ fn every_stored_section_is_listed() {
     let is_stored = |name: &str| stored.iter().any(|case| case.name == name);
     assert!(is_stored("ok_recorded_crash") && CORPUS_VERDICTS.iter().all(|(name, _)| is_stored(name)));
     on_two_threads("stored", &stored, |folder, case| list(folder, &case.name, &case.section));
+}
+
+const SEED: u64 = 20_260_104;
+const TURNS: u64 = 200;
+
+// Generated sections, as the library's calls are compared in; a section that is only said to be longer is none to print.
+#[test]
+fn generated_sections_are_listed() {
+    let turns =
+        (0..TURNS).map(|number| (number, turn(SEED, number))).filter(|(_, turn)| turn.length == turn.section.len());
+    let sections: Vec<(String, Vec<u8>)> =
+        turns.map(|(number, turn)| (format!("turn_{number}"), turn.section)).collect();
+    let accepted = sections.iter().filter(|(_, section)| reader::check(section) == Verdict::Accepted).count();
+    assert!(accepted >= 40 && sections.len() - accepted >= 40, "{accepted} of {} are accepted", sections.len());
+    on_two_threads("generated", &sections, |folder, (name, section)| list(folder, name, section));
 }
 
 /// Cases of every machine: sorted and not, relative, with repeated blocks, with functions that have no rows, and with
@@ -137,10 +154,11 @@ fn a_section_of_no_functions_prints_nothing() {
     }
 }
 
-// Functions up to an index of six digits, and as many rows in one function.
+// 750,000 lines, functions up to an index of six digits, and as many rows in one function.
 #[test]
 fn long_sections_are_listed() {
     let folder = Folder::of("long");
+    list(&folder, "four_rows", &large::functions_of_four_rows(150_000).bytes());
     let mut section = Section::new(Machine::Amd64);
     section.functions = (0..=100_000).map(|start| maker::Function::new(start, 1, 0, Vec::new())).collect();
     list(&folder, "functions", &section.bytes());
