@@ -21,7 +21,7 @@ fn digit_of(byte: u8) -> u64
     }
 }
 
-// So few digits that no sum wraps.
+// The number that digits to a base make: so few of them that no sum wraps.
 fn digits_of(text: &[u8], base: u64, most: usize) -> Parsed
     requires { ⌜ (2 ≤ base) × (base ^ most ≤ 2 ^ 64) ⌝ }
     ensures { λ r. ⌜ r ≡ digitsOf base most (now (text .entry)) ⌝ }

@@ -16,8 +16,8 @@ ghost use Rattle.section.specs.Header.{layoutOf};
 ghost use Rattle.section.specs.Meaning.{blockOf};
 ghost use Rattle.accept.specs.computed.Checks.{headerFault};
 ghost use Rattle.accept.specs.declared.verdict.Fault.the-variants.{Sound};
+ghost use Rattle.listing.specs.Functions.{kindOf, factsOf, describedIn, describedOf};
 ghost use Rattle.listing.specs.inner.Requires.{EntryThere};
-ghost use Rattle.listing.specs.Functions.{kindOf, rowsPlace, factsOf, describedIn, describedOf};
 
 // A block is plain, or repeated by a size.
 pub enum Kind {

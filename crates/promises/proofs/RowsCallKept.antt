@@ -5,10 +5,11 @@
 use mathlib.Core.Path.{_≡_, refl, sym, _∙_, ap, subst, fun-ext}
 use mathlib.Core.Bool.{Bool, true, false, false≢true}
 use mathlib.Core.List.{List, [], _∷_}
-use Prim.Native.Nat.{ℕ, zero, suc, _<_}
+use Prim.Native.Nat.{ℕ, _<_}
 use native.Mathlib.Omega.{arith}
 use lib.Dec.{ltb}
 use lib.ListN.{drop}
+use lib.Seq.{drop-nil}
 use borrow.Author.Tests.{ltb-true, lt-ltb}
 use Rattle.section.specs.Header.{layoutOf}
 use Rattle.section.specs.Meaning.{functionIn}
@@ -30,6 +31,7 @@ use Rattle.listing.specs.declared.rows.NextRow.{NextRow}
 use Rattle.listing.specs.declared.rows.NextRow.the-variants.{One, NoMore}
 use Rattle.listing.specs.declared.rows.RowPlace.{RowPlace}
 use Rattle.listing.specs.declared.rows.RowTurn.{RowTurn}
+use Rattle.listing.proofs.AfterLaws.{left-after}
 use Rattle.listing.proofs.RowMeaning.{function-rows}
 use Rattle.listing.proofs.RowsLeft.{turn-yields}
 use Rattle.suntimpani.specs.FlatRows.{flatPlace, flatNext, flatYield, flatTurn}
@@ -38,20 +40,10 @@ use Rattle.suntimpani.specs.declared.rows.RowInC.{RowInC}
 use Rattle.suntimpani.specs.declared.rows.RowsInC.{RowsInC}
 use Rattle.suntimpani.proofs.Lossless.{place-read-back, turn-read-back}
 use Rattle.promises.specs.FunctionCall.{HasFunction}
-use Rattle.promises.specs.RowsCall.{RowCalls, exportedRows, past, rowTold, NextTold, TellsRows, KeepsRows, RowsPromised}
+use Rattle.promises.specs.RowsCall.{FlatRowCalls, exportedRows, restAfter, rowTold, NextTold, TellsRows, KeepsFlatRows, FlatRowsPromised}
 use Rattle.promises.specs.inner.Lent.{lent}
 use Rattle.promises.proofs.ContractLaws.{somewhere}
 use Rattle.promises.proofs.HeaderLaws.{breaks-not-obeys}
-
--- ---- lists of rows
-
-drop-none : (k : ℕ) → drop {A = Row} k [] ≡ []
-drop-none zero = refl
-drop-none (suc k) = refl
-
-drop-one-more : (k : ℕ) (rows : List Row) → drop k (drop 1 rows) ≡ drop (suc k) rows
-drop-one-more k [] = drop-none k
-drop-one-more k (first ∷ rest) = refl
 
 -- ---- whether there is a row is what the struct says
 
@@ -150,11 +142,9 @@ none-after-told s rows none =
 -- ---- one call after the other: so many rows are gone
 
 left-past : (s : List ℕ) (k : ℕ) (rows : RowsInC)
-    → rowsLeft s (readRows (past exportedRows s k rows)) ≡ drop k (rowsLeft s (readRows rows))
-unfolding past
-left-past s zero rows = refl
-left-past s (suc k) rows =
-    left-past s k (exportedRows .next s rows .rest) ∙ ap (drop k) (next-told s rows .others) ∙ drop-one-more k (rowsLeft s (readRows rows))
+    → rowsLeft s (readRows (restAfter exportedRows s k rows)) ≡ drop k (rowsLeft s (readRows rows))
+left-past s k rows =
+    left-after (λ (from : RowsInC). exportedRows .next s from .rest) (λ (from : RowsInC). rowsLeft s (readRows from)) (λ from. next-told s from .others) k rows
 
 -- ---- where the reader begins
 
@@ -197,7 +187,7 @@ module _ (s : List ℕ) (index : ℕ) where
 
   -- the rows that are left before call k
   left-before : (k : ℕ) (place : RowPlace) → exportedRows .begin s index ≡ flatPlace place
-      → rowsLeft s (readRows (past exportedRows s k (exportedRows .begin s index))) ≡ drop k (rowsLeft s place)
+      → rowsLeft s (readRows (restAfter exportedRows s k (exportedRows .begin s index))) ≡ drop k (rowsLeft s place)
   left-before k place is =
       left-past s k (exportedRows .begin s index)
       ∙ ap (λ (rows : RowsInC). drop k (rowsLeft s (readRows rows))) is
@@ -206,13 +196,13 @@ module _ (s : List ℕ) (index : ℕ) where
   rows-told : Obeys s → index < functionCount s → (k : ℕ) → readNext (rowTold exportedRows s index k) ≡ nextRow (drop k (functionIn s index .rows))
   unfolding rowTold
   rows-told obeys known k =
-      next-told s (past exportedRows s k (exportedRows .begin s index)) .first
+      next-told s (restAfter exportedRows s k (exportedRows .begin s index)) .first
       ∙ ap nextRow (left-before k (rowsPlace s index) (begins (obeys .header, known)) ∙ ap (drop k) (function-rows s obeys index known))
 
   no-rows-told : ¬ HasFunction s index → (k : ℕ) → rowTold exportedRows s index k .more ≡ 0
   unfolding rowTold rowsLeft rowsFrom nothingLeft
   no-rows-told hasnt k =
-      no-more s (past exportedRows s k (exportedRows .begin s index)) (left-before k nothingLeft (begins-nowhere hasnt) ∙ drop-none k)
+      no-more s (restAfter exportedRows s k (exportedRows .begin s index)) (left-before k nothingLeft (begins-nowhere hasnt) ∙ drop-nil {A = Row} k)
 
 -- ---- so they meet what is promised
 
@@ -229,12 +219,12 @@ exported-rows-told =
 
 -- ---- the contracts
 
-pub exported-rows-kept : KeepsRows exportedRows
+pub exported-rows-kept : KeepsFlatRows exportedRows
 unfolding exportedRows
 exported-rows-kept = record { begin = λ κs a. refl; next = λ κs a. refl }
 
 -- calls that keep them are ours
-kept-are-exported : (calls : RowCalls) → KeepsRows calls → calls ≡ exportedRows
+kept-are-exported : (calls : FlatRowCalls) → KeepsFlatRows calls → calls ≡ exportedRows
 unfolding exportedRows
 kept-are-exported calls keeps i =
     record {
@@ -242,12 +232,12 @@ kept-are-exported calls keeps i =
       next = (fun-ext λ s. fun-ext λ rows. keeps .next ([], tt) (lent somewhere s, (rows, tt))) i;
     }
 
-pub exported-rows-promised : RowsPromised
+pub exported-rows-promised : FlatRowsPromised
 exported-rows-promised calls keeps = subst TellsRows (sym (kept-are-exported calls keeps)) exported-rows-told
 
 -- ---- and no other two calls meet it
 
-module _ (one other : RowCalls) (first : TellsRows one) (second : TellsRows other) (s : List ℕ) where
+module _ (one other : FlatRowCalls) (first : TellsRows one) (second : TellsRows other) (s : List ℕ) where
   begun-alike : (index : ℕ) → one .begin s index ≡ other .begin s index
   begun-alike index = by (has-or-not s index)
     where
@@ -273,7 +263,7 @@ module _ (one other : RowCalls) (first : TellsRows one) (second : TellsRows othe
     told-alike : one .next s rows ≡ other .next s rows
     told-alike = first .next s rows .flattened ∙ ap flatTurn turn-alike ∙ sym (second .next s rows .flattened)
 
-pub rows-ours-alone : (calls : RowCalls) → TellsRows calls → calls ≡ exportedRows
+pub rows-ours-alone : (calls : FlatRowCalls) → TellsRows calls → calls ≡ exportedRows
 rows-ours-alone calls tells i =
     record {
       begin = (fun-ext λ s. fun-ext λ index. begun-alike calls exportedRows tells exported-rows-told s index) i;

@@ -7,6 +7,7 @@ use lib.IntN.{pos, negsuc}
 use lib.ListN.{take}
 use Rattle.section.specs.SectionS.{sectionS, overlappingS}
 use Rattle.listing.specs.Functions.{kindOf, rowsPlace, factsOf, describedIn, describedBy, describedOf}
+use Rattle.listing.specs.Listing.{after}
 use Rattle.listing.specs.computed.Reader.{placeIn}
 use Rattle.listing.specs.computed.Turns.{namesOffsets, hasFixed, canRead, hasRow, passed, ended, nothingLeft, rowTurn}
 use Rattle.trace.specs.inner.Opened.{traceOpened}
@@ -15,7 +16,7 @@ use Rattle.suntimpani.specs.FlatRows.{abiNumber, flatPlace, flatNext, flatYield
 use Rattle.suntimpani.specs.Read.{readRows}
 use Rattle.suntimpani.specs.declared.rows.RowInC.{RowInC}
 use Rattle.suntimpani.specs.declared.rows.RowsInC.{RowsInC}
-use Rattle.promises.specs.RowsCall.{exportedRows, past, rowTold}
+use Rattle.promises.specs.RowsCall.{exportedRows, rowTold}
 
 -- a place in an AMD64 section with row starts of one byte
 abbrev placeAt : ℕ → ℕ → RowsInC
@@ -45,5 +46,5 @@ pub rows-of-s : (exportedRows .begin sectionS 0 ≡ placeAt 68 2)
     × (rowTold exportedRows sectionS 2 0 ≡ noMore (placeAt 0 0))
     × (rowTold exportedRows (take 77 sectionS) 0 0 ≡ noMore (placeAt 0 0))
     × (rowTold exportedRows overlappingS 1 0 ≡ entered (placeAt 78 0))
-unfolding traceOpened sectionS overlappingS kindOf rowsPlace factsOf describedIn describedBy describedOf placeIn namesOffsets hasFixed canRead hasRow passed ended nothingLeft rowTurn baseNumber placeKind placeOffset flag emptyRow abiNumber flatPlace flatNext flatYield flatTurn readRows exportedRows past rowTold
+unfolding traceOpened sectionS overlappingS kindOf rowsPlace factsOf describedIn describedBy describedOf placeIn namesOffsets hasFixed canRead hasRow passed ended nothingLeft rowTurn baseNumber placeKind placeOffset flag emptyRow abiNumber flatPlace flatNext flatYield flatTurn readRows exportedRows after rowTold
 rows-of-s = (refl, refl, refl, refl, refl, refl, refl, refl, refl, refl)

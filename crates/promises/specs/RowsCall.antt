@@ -3,7 +3,7 @@
 -- numbers that are handed in; and what the contracts of our two exported functions allow.
 use mathlib.Core.Path.{_≡_}
 use mathlib.Core.List.{List}
-use Prim.Native.Nat.{ℕ, zero, suc, _<_}
+use Prim.Native.Nat.{ℕ, _<_}
 use lib.ListN.{drop}
 use borrow.Fn.Kinds.{Dens}
 use contract.Lifetimes.{Lfts}
@@ -12,7 +12,7 @@ use Rattle.section.specs.Meaning.{functionIn}
 use Rattle.section.specs.declared.row.Row.{Row}
 use Rattle.accept.specs.Rules.{functionCount, Obeys}
 use Rattle.listing.specs.Functions.{rowsPlace, describedOf}
-use Rattle.listing.specs.Listing.{nextRow}
+use Rattle.listing.specs.Listing.{nextRow, after}
 use Rattle.listing.specs.computed.Reader.{placeIn}
 use Rattle.listing.specs.computed.Turns.{passed, ended, nothingLeft, rowTurn, rowsLeft}
 use Rattle.listing.specs.declared.rows.NextRow.the-variants.{One, NoMore}
@@ -29,12 +29,12 @@ use Rattle.promises.specs.FunctionCall.{HasFunction}
 
 -- ---- any two calls of this form
 
-pub record RowCalls : Type 0 where
+pub record FlatRowCalls : Type 0 where
   pub begin : List ℕ → ℕ → RowsInC
   pub next : List ℕ → RowsInC → RowInC
 
 -- what the contracts of our two exported functions name
-unfoldable pub exportedRows : RowCalls
+unfoldable pub exportedRows : FlatRowCalls
 exportedRows =
     record {
       begin = λ s index. flatPlace (placeIn (describedOf s index));
@@ -43,14 +43,13 @@ exportedRows =
 
 -- ---- one call after the other
 
--- where the reader stands after so many rows
-unfoldable pub past : RowCalls → List ℕ → ℕ → RowsInC → RowsInC
-past calls s zero rows = rows
-past calls s (suc k) rows = past calls s k (calls .next s rows .rest)
+-- where the reader stands after so many calls
+abbrev pub restAfter : FlatRowCalls → List ℕ → ℕ → RowsInC → RowsInC
+restAfter calls s k rows = after (λ from. calls .next s from .rest) k rows
 
 -- what call k says, counted from 0, of the rows of the function with this index
-unfoldable pub rowTold : RowCalls → List ℕ → ℕ → ℕ → RowInC
-rowTold calls s index k = calls .next s (past calls s k (calls .begin s index))
+unfoldable pub rowTold : FlatRowCalls → List ℕ → ℕ → ℕ → RowInC
+rowTold calls s index k = calls .next s (restAfter calls s k (calls .begin s index))
 
 -- ---- what is promised of one call, of any bytes and from any numbers
 
@@ -67,7 +66,7 @@ pub record NextTold (s : List ℕ) (rows : RowsInC) (answer : RowInC) : Type 0 w
 
 -- ---- and of the two
 
-pub record TellsRows (calls : RowCalls) : Type 0 where
+pub record TellsRows (calls : FlatRowCalls) : Type 0 where
   -- the first call says what the entry says, as it stands; where there is no such function, none is left
   pub begun : (s : List ℕ) (index : ℕ) → HasFunction s index → calls .begin s index ≡ flatPlace (rowsPlace s index)
   pub unbegun : (s : List ℕ) (index : ℕ) → ¬ HasFunction s index → calls .begin s index ≡ flatPlace nothingLeft
@@ -83,11 +82,11 @@ pub record TellsRows (calls : RowCalls) : Type 0 where
 -- ---- the contracts
 
 -- what the calls answer is what the contracts of our exported functions allow, and nothing else of them is known
-pub record KeepsRows (calls : RowCalls) : Type 0 where
+pub record KeepsFlatRows (calls : FlatRowCalls) : Type 0 where
   pub begin : (κs : Lfts 1) (a : Dens κs rows-kinds.ps)
       → Allows rows-kinds.ps rows-kinds.r rows-reads.Learnt κs a (calls .begin (now (a .0)) (a .1 .0)) (tt, (tt, tt))
   pub next : (κs : Lfts 1) (a : Dens κs next-kinds.ps)
       → Allows next-kinds.ps next-kinds.r next-reads.Learnt κs a (calls .next (now (a .0)) (a .1 .0)) (tt, (tt, tt))
 
-abbrev pub RowsPromised : Type 0
-RowsPromised = (calls : RowCalls) → KeepsRows calls → TellsRows calls
+abbrev pub FlatRowsPromised : Type 0
+FlatRowsPromised = (calls : FlatRowCalls) → KeepsFlatRows calls → TellsRows calls

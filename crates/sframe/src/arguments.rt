@@ -2,6 +2,7 @@
 ghost use Prim.Native.Nat.{_≤_};
 ghost use lib.ListN.{length};
 ghost use Rattle.sframe.specs.Reading.{Within};
+use crate::line::put;
 use crate::say::complain;
 use crate::say::complain_number;
 use digits::Parsed;
@@ -112,18 +113,6 @@ fn read_file(said: &[u8], most: u64, room: &mut [u8]) -> Loaded
     loaded
 }
 
-// Begins a room with a text, as far as there is room.
-fn put_in_front(text: &[u8], room: &mut [u8]) {
-    let mut i = 0;
-    while i < text.len() {
-        if room.len() <= i {
-            return;
-        }
-        room[i] = text[i];
-        i = i + 1;
-    }
-}
-
 fn path_room() -> [u8; FRONT + PATH] {
     [0u8; FRONT + PATH]
 }
@@ -133,7 +122,7 @@ fn named_in(said: &mut [u8], i: usize) -> usize
     requires { ⌜ 8 ≤ length (now said) ⌝ }
     ensures { λ r. ⌜ (8 ≤ r) × (r ≤ length (now (said .exit))) ⌝ }
 {
-    put_in_front(b"sframe: ", said);
+    put(said, 0, b"sframe: ");
     let n = os::arg(i, &mut said[FRONT..]);
     FRONT + n
 }

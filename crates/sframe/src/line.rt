@@ -27,7 +27,7 @@ pub fn put(line: &mut [u8], column: usize, text: &[u8]) {
     }
 }
 
-// One digit to a base, and where it stands: before a column.
+// One digit, just before a column.
 fn put_digit(line: &mut [u8], end: usize, digit: u8) {
     if end < 1 {
         return;
@@ -99,7 +99,7 @@ pub fn put_offset(line: &mut [u8], end: usize, offset: Offset) {
     }
 }
 
-// A start from a column on: its sign, 0x, and 8 hexadecimal digits.
+// A start, at its own columns: its sign, 0x, and 8 hexadecimal digits.
 pub fn put_start(line: &mut [u8], start: Offset) {
     put(line, 24, b"0x");
     match shift_of(start) {

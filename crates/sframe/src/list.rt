@@ -59,16 +59,14 @@ fn put_base(line: &mut [u8], base: Base) {
 
 // The offset of a saved register, behind its name; nothing where it is in its register. The answer is where the line ends, which it
 // does at `end` before.
-fn put_place(line: &mut [u8], end: usize, column: usize, name: &[u8], place: Place) -> usize {
+fn put_place(line: &mut [u8], end: usize, column: u8, name: &[u8], place: Place) -> usize {
     match place {
         Place::Register => end,
         Place::AtOffset(offset) => {
-            if 1000 < column {
-                return end;
-            }
-            put(line, column, name);
-            put_offset(line, column + 14, offset);
-            column + 14
+            let first = column as usize;
+            put(line, first, name);
+            put_offset(line, first + 14, offset);
+            first + 14
         }
     }
 }

@@ -1,4 +1,4 @@
--- `entry::exact_start` holds the start field, from the position that it counts from.
+-- `entry::exact_start` is the start of the entry's field, from the position that it counts from.
 -- Assumes nothing.
 use borrow.Author.Needs.{needs}
 use Rattle.section.specs.Entry.{startOf}
