@@ -19,6 +19,8 @@ endif
 N = 1000000
 SEED =
 FROM =
+# What is timed: everything, or with TABLE=rows the finds in long functions alone.
+TABLE =
 
 help:
 	@echo "make run      prove and build the program sframe, and ask it about a recorded crash"
@@ -27,7 +29,7 @@ help:
 	@echo "make install  put the archive, its header and a pkg-config file below PREFIX ($(PREFIX))"
 	@echo "make pc       print that pkg-config file"
 	@echo "make soak     compare the library with the reader for longer: N=$(N) sections, SEED=.. to repeat a run"
-	@echo "make bench    one table: the library's time against the reader's, and its use of the stack"
+	@echo "make bench    the library's time against the reader's, and its use of the stack; TABLE=rows for long functions alone"
 	@echo "make cases    make the stored cases and their expected output anew, by the independent reader"
 	@echo "make reader   the independent reader by itself: its own tests, and the public dumps"
 	@echo "make fmt      lay every source and proof file out"
@@ -62,7 +64,7 @@ bench: lib
 	@$(call for_tests,measure)
 	@said=$$(rt staticlib measure_lines 2>&1) || { echo "$$said"; exit 1; }
 	@$(call for_tests,measure_lines)
-	cd tests && cargo run --quiet --release --offline --locked --features library,measure --bin bench
+	cd tests && cargo run --quiet --release --offline --locked --features library,measure --bin bench -- $(TABLE)
 
 cases:
 	cd tests && cargo run --quiet --release --offline --locked --bin cases -- write

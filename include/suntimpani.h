@@ -108,7 +108,7 @@
 #include <stdint.h>
 
 /* The version of this header and of the archive beside it. */
-#define SUNTIMPANI_VERSION "0.2.0"
+#define SUNTIMPANI_VERSION "0.2.1"
 
 #ifdef __cplusplus
 extern "C" {

@@ -27,6 +27,7 @@ pub(crate) mod questions;
 mod recorded;
 mod relative;
 mod rows;
+mod runs;
 mod sizes;
 mod starts;
 mod step_order;
@@ -124,6 +125,7 @@ pub fn all() -> Vec<Case> {
         depths::all(),
         chains::all(),
         recorded::all(),
+        runs::all(),
     ];
     let mut cases: Vec<Case> = groups.into_iter().flatten().collect();
     ask_of_refused(&mut cases);

@@ -126,6 +126,34 @@ pub fn functions_of_four_rows(count: usize) -> Section {
     section
 }
 
+/// How far each row of a long function starts above the one before it.
+pub const ROW_STEP: u32 = 2;
+
+/// A function of many rows: how wide their starts and offsets are, by the row type and the size code, and whether all
+/// have two offsets or every second one has the first alone.
+#[derive(Clone, Copy, Debug)]
+pub struct Long {
+    pub rows: u32,
+    pub row_type: u8,
+    pub size_code: u8,
+    pub alike: bool,
+}
+
+impl Long {
+    /// It alone in a sorted AMD64 section. A million rows of the widest take 13,000,048 bytes.
+    pub fn section(&self) -> Section {
+        let row = |number: u32| {
+            let count = if self.alike || number % 2 == 0 { 2 } else { 1 };
+            Row::new(ROW_STEP * number, self.size_code, &[8 + (number % 100) as i32, -16][..count])
+        };
+        let mut section = Section::new(Machine::Amd64);
+        section.flags = SORTED;
+        let (size, rows) = (ROW_STEP * self.rows, (0..self.rows).map(row).collect());
+        section.functions = vec![Function::new(start_of(0), size, self.row_type, rows)];
+        section
+    }
+}
+
 /// Those of `many_functions` in another order, without the flag.
 pub fn many_functions_unsorted(count: usize) -> Section {
     let mut section = many_functions(count);
@@ -216,6 +244,23 @@ mod tests {
         let section = functions_of_four_rows(1_000).bytes();
         assert_eq!((section.len(), check(&section)), (28 + 34 * 1_000, Verdict::Accepted));
         assert!(functions(&section).iter().all(|function| function.rows.len() == 4));
+    }
+
+    #[test]
+    fn a_long_function_is_sound_and_its_rows_are_told_apart() {
+        for (rows, row_type, size_code, alike) in [(100, 0, 0, true), (1_000_000, 2, 2, true), (10_000, 1, 0, false)] {
+            let section = Long { rows, row_type, size_code, alike }.section().bytes();
+            let fewer = if alike { 0 } else { rows as usize / 2 };
+            let row_bytes = rows as usize * ((1 << row_type) + 1 + 2 * (1 << size_code)) - fewer * (1 << size_code);
+            assert_eq!((section.len(), check(&section)), (48 + row_bytes, Verdict::Accepted));
+            let (first, last) = (start_of(0), start_of(0) + i64::from(ROW_STEP * rows) - 1);
+            for (d, number) in [(first, 0), (first + 3, 1), (last, rows - 1)] {
+                let answer = lookup(&section, ADDRESS, ADDRESS.wrapping_add_signed(d));
+                let Outcome::Found { row, number: found, .. } = answer.outcome else { panic!("{answer:?}") };
+                let expected = (u64::from(number), ROW_STEP * number, 8 + i64::from(number % 100));
+                assert_eq!((found, row.start, row.cfa_offset), expected);
+            }
+        }
     }
 
     #[test]

@@ -36,6 +36,18 @@ pub fn by_reader(section: &[u8], address: u64, pcs: &[u64]) -> Measured {
     }
 }
 
+/// The same by a reader that decodes every row on the way, in a section of one function that covers all these PCs.
+pub fn by_decoding(section: &[u8], address: u64, pcs: &[u64]) -> Measured {
+    match Checked::open(section) {
+        Err(refusal) => Measured { number: refusal.number, index: refusal.index, digest: 0 },
+        Ok(checked) => {
+            let answer = |pc| Answer { outcome: checked.row_by_decoding(0, address, pc), compared: 1 };
+            let add = |digest: u32, &pc| digest.wrapping_mul(31).wrapping_add(weight(&answer(pc)) as u32);
+            Measured { number: 0, index: 0, digest: pcs.iter().fold(0, add).into() }
+        }
+    }
+}
+
 /// One check of the section by the library, then all its lines.
 pub fn listed_by_library(section: &[u8]) -> Measured {
     // SAFETY: the pointer and the length are those of a slice, which is lent for the length of the call.

@@ -6,6 +6,7 @@
 #![forbid(unsafe_code)]
 
 mod caller;
+mod decoding;
 mod listing;
 mod lookup;
 mod rows;

@@ -3,7 +3,8 @@
 
 use suntimpani_tests::cases;
 use suntimpani_tests::obvious;
-use suntimpani_tests::reader::{functions, lookup, Answer, Block, Function, Header, Outcome, Place, Row, Verdict};
+use suntimpani_tests::reader::{functions, lookup, next_row, rows_of, Answer, Block, Function, Header};
+use suntimpani_tests::reader::{NextRow, Outcome, Place, Row, RowsAt, Verdict};
 
 /// A question about an accepted section, what the section means, and the right answer.
 struct Asked<'a> {
@@ -17,7 +18,16 @@ struct Asked<'a> {
 
 type Slip = fn(&Asked) -> Answer;
 
-const SLIPS: [(&str, Slip); 31] = [
+/// What a scan knows of a row that it passes: how many bytes the start has, and the info bytes of the row, of the row
+/// before it and of the first; its own where there is none before.
+struct Passed {
+    width: usize,
+    info: u8,
+    before: u8,
+    first: u8,
+}
+
+const SLIPS: [(&str, Slip); 43] = [
     ("the later of the covering entries wins", |a| a.by_one(|covering| covering[covering.len() - 1])),
     ("the first of the covering entries wins", |a| a.by_one(|covering| covering[0])),
     ("the two highest indexes are told", |a| a.by_two(|all| (all[all.len() - 2], all[all.len() - 1]))),
@@ -47,6 +57,30 @@ const SLIPS: [(&str, Slip); 31] = [
     ("a repeat size counts in a plain function", |a| a.with(|a, f, index| f.block = a.block_by_size(index))),
     ("the signed bit counts on AMD64", |a| a.as_aarch64(|row, other| row.signed = other.signed)),
     ("the second offset is that of RA on AMD64", |a| a.as_aarch64(|row, other| row.ra = other.ra)),
+    ("a row is passed by the length of the first", |a| a.by_scan(|p| p.width + 1 + count(p.first) * size(p.first))),
+    ("a row is passed by the length of the one before", |a| {
+        a.by_scan(|p| p.width + 1 + count(p.before) * size(p.before))
+    }),
+    ("offsets are passed as bytes", |a| a.by_scan(|p| p.width + 1 + count(p.info))),
+    ("offsets are passed as wide as those of the first", |a| {
+        a.by_scan(|p| p.width + 1 + count(p.info) * size(p.first))
+    }),
+    ("as many offsets are passed as the first has", |a| a.by_scan(|p| p.width + 1 + count(p.first) * size(p.info))),
+    ("the signed bit is one of the offset size", |a| a.by_scan(|p| p.width + 1 + (count(p.info) << (p.info >> 5)))),
+    ("a row is passed by one offset too many", |a| a.by_scan(|p| p.width + 1 + (count(p.info) + 1) * size(p.info))),
+    ("a row is passed without its info byte", |a| a.by_scan(|p| p.width + count(p.info) * size(p.info))),
+    ("a row has the offset for CFA of the one before", |a| {
+        a.by_passed(|row, passed| row.cfa_offset = passed.last().map_or(row.cfa_offset, |before| before.cfa_offset))
+    }),
+    ("a place of FP that was passed is kept", |a| a.by_passed(keep_fp)),
+    ("rows of the same offsets are one", |a| {
+        a.by_row(|f, o| last_row(f, o).map(|last| (0..=last).rfind(|&row| row == 0 || !alike(f, row)).unwrap_or(0)))
+    }),
+    ("a run of rows is passed to its end", |a| {
+        a.by_row(|f, o| {
+            last_row(f, o).map(|last| (last + 1..f.rows.len()).find(|&r| !alike(f, r)).unwrap_or(f.rows.len()) - 1)
+        })
+    }),
     ("every section is searched by halving", |a| a.by_halving()),
     ("a function that covers ends the halving", |a| {
         a.counting(|a| if a.sorted() { halvings(a, true) } else { a.right.compared })
@@ -173,6 +207,38 @@ impl Asked<'_> {
         Answer { outcome, ..self.right }
     }
 
+    // The answer where a row that is passed is followed by what stands so many bytes behind its place.
+    fn by_scan(&self, length: fn(&Passed) -> usize) -> Answer {
+        let Some((function, meant)) = self.function() else { return self.right };
+        let o = place_in(meant, self.distance());
+        let mut place = rows_of(self.section, function);
+        let width = 1 << place.row_type;
+        let info_at = |place: RowsAt| self.section[place.at as usize + width];
+        let mut outcome = Outcome::NoRow { function };
+        let mut infos = None;
+        for number in 0.. {
+            let NextRow { row: Some(row), rest } = next_row(self.section, place) else { break };
+            if i128::from(row.start) > o {
+                break;
+            }
+            outcome = Outcome::Found { function, number, row };
+            let info = info_at(place);
+            let (first, before) = infos.unwrap_or((info, info));
+            infos = Some((first, info));
+            place = RowsAt { at: place.at + length(&Passed { width, info, before, first }) as u64, ..rest };
+        }
+        Answer { outcome, ..self.right }
+    }
+
+    // The answer where the row found is changed by those that were passed before it.
+    fn by_passed(&self, change: fn(&mut Row, &[Row])) -> Answer {
+        let mut answer = self.right;
+        if let Outcome::Found { function, number, row } = &mut answer.outcome {
+            change(row, &self.functions[*function as usize].rows[..*number as usize]);
+        }
+        answer
+    }
+
     fn has_row(&self, function: &Function) -> bool {
         last_row(function, place_in(function, self.distance())).is_some()
     }
@@ -232,6 +298,29 @@ fn place_in(function: &Function, d: i128) -> i128 {
 
 fn last_row(function: &Function, o: i128) -> Option<usize> {
     function.rows.iter().rposition(|row| i128::from(row.start) <= o)
+}
+
+// How many offsets an info byte announces, and how many bytes each has.
+fn count(info: u8) -> usize {
+    usize::from(info >> 1 & 0xf)
+}
+
+fn size(info: u8) -> usize {
+    1 << (info >> 5 & 0x3)
+}
+
+// Whether a row has what the one before it has, but for its start.
+fn alike(function: &Function, number: usize) -> bool {
+    let (row, before) = (function.rows[number], function.rows[number - 1]);
+    Row { start: 0, ..row } == Row { start: 0, ..before }
+}
+
+// A row without a place of FP has that of the last row that was passed and has one.
+fn keep_fp(row: &mut Row, passed: &[Row]) {
+    let kept = passed.iter().rev().map(|before| before.fp).find(|&fp| fp != Place::Register);
+    if let (Place::Register, Some(fp)) = (row.fp, kept) {
+        row.fp = fp;
+    }
 }
 
 // Offsets that could be of one byte, taken as unsigned.

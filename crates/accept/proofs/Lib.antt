@@ -10,5 +10,6 @@ pub mod RowLaws
 pub mod RuleLaws
 pub mod SignedTests
 pub mod TableLaws
+pub mod TriedAgreement
 pub mod TurnLaws
 pub mod WalkLaws

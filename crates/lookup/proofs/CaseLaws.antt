@@ -51,7 +51,7 @@ module _ (s : List ℕ) (d : ℤ) where
   unfolding functionIn
   covers-at i h = rw (functions-at s i (h .0)) (is-true (covers-shows d (functionIn s i)) (h .1, h .2))
 
-  at-covers : (i : ℕ) → i < length (functionsOf s) → coversAt d (functionsOf s) i ≡ true → Covers s d i
+  pub at-covers : (i : ℕ) → i < length (functionsOf s) → coversAt d (functionsOf s) i ≡ true → Covers s d i
   unfolding functionIn
   at-covers i lt e =
       let inside : i < functionCount s = rw functions-count at lt in

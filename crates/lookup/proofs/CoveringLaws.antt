@@ -94,7 +94,26 @@ module _ (d : ℤ) where
       ∙ first-from (suc from) fs i (omega arith) here (λ k less. before (suc k) (omega arith))
       ∙ ap (λ n. n ∷ coveringFrom d (suc n) (drop (suc i) fs)) (omega arith)
 
+  -- of two lists as long, whose functions cover alike at every place, the same indexes cover
+  covering-same : (from : ℕ) (fs gs : List Function) → length fs ≡ length gs → ((k : ℕ) → k < length fs → coversAt d fs k ≡ coversAt d gs k)
+      → coveringFrom d from fs ≡ coveringFrom d from gs
+  unfolding coveringFrom
+  covering-same from [] [] e same = refl
+  covering-same from [] (g ∷ gs) e same = absurd (omega arith)
+  covering-same from (f ∷ fs) [] e same = absurd (omega arith)
+  covering-same from (f ∷ fs) (g ∷ gs) e same =
+      let rest = covering-same (suc from) fs gs (omega arith) (λ k lt. same (suc k) (omega arith)) in
+      let alike : covers d f ≡ covers d g = same zero (omega arith) in
+      by-value (covers d f)
+      (λ t. taken from f fs t ∙ ap (from ∷_) rest ∙ sym (taken from g gs (sym alike ∙ t)))
+      (λ t. skipped from f fs t ∙ rest ∙ sym (skipped from g gs (sym alike ∙ t)))
+
 -- ---- the cover
+
+pub covering-alike : (d : ℤ) (fs gs : List Function) → length fs ≡ length gs → ((k : ℕ) → k < length fs → coversAt d fs k ≡ coversAt d gs k)
+    → covering d fs ≡ covering d gs
+unfolding covering
+covering-alike d fs gs e same = covering-same d 0 fs gs e same
 
 module _ (d : ℤ) (fs : List Function) where
   pub none-cover : NoneAt d fs → coverOf (covering d fs) ≡ Nobody

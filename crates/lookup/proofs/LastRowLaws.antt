@@ -1,7 +1,7 @@
 -- The last row that starts at or below o, among rows that are given by their numbers: when there is none, which it is, that one
 -- of the two holds, and that where starts rise a scan from the first row on finds it.
 -- Assumes nothing.
-use mathlib.Core.Path.{_≡_, refl, subst}
+use mathlib.Core.Path.{_≡_, refl, _∙_, subst}
 use mathlib.Core.List.{List, _∷_}
 use mathlib.Core.Logic.{_⊎_, inl, inr, ⊎-elim}
 use Prim.Native.Nat.{ℕ, zero, suc, _+_, _-_, _≤_, _<_}
@@ -91,7 +91,48 @@ module _ (start : ℕ → ℕ) (o : ℕ) where
   unfolding leading
   leading-stop left k lt = rw (lt-leb (start k) o lt, leading)
 
-  -- of `count` starts, from number k on, those below number n are at or below o, and the others are above it
+  -- of `count` starts, from number k on, those below number n are at or below o, and number n, if there is one, is above it
+  pub record Halts (count k n : ℕ) : Type 0 where
+    pub from : k ≤ n
+    pub within : n ≤ count
+    pub below : (j : ℕ) → k ≤ j → j < n → start j ≤ o
+    pub stop : n < count → o < start n
+
+  -- so it is with where the scan ends, and with no other number
+  halts-from : (count left k : ℕ) → k + left ≡ count → Halts count k (leading start o left k)
+  unfolding leading
+  halts-from count zero k e =
+      record { from = omega arith; within = omega arith; below = λ j le lt. absurd (omega arith); stop = λ lt. absurd (omega arith) }
+  halts-from count (suc left) k e =
+      by-test (not-below o (start k))
+      (λ above.
+      let lt : o < start k = omega arith in
+      rw (leading-stop left k lt)
+      (record { from = omega arith; within = omega arith; below = λ j le less. absurd (omega arith); stop = λ less. lt }))
+      (λ here.
+      let rest = halts-from count left (suc k) (omega arith) in
+      rw (leading-on left k here)
+      (record { from = omega arith; within = rest .within; below = from-here k (λ lt. here) (rest .below); stop = rest .stop }))
+
+  pub halts : (count : ℕ) → Halts count 0 (leading start o count 0)
+  halts count = halts-from count count 0 (omega arith)
+
+  halts-here : (count left k n : ℕ) → k + left ≡ count → Halts count k n → leading start o left k ≡ n
+  unfolding leading
+  halts-here count zero k n e h = omega arith
+  halts-here count (suc left) k n e h =
+      ⊎-elim
+      (λ same. leading-stop left k (rw same (h .stop (omega arith))) ∙ same)
+      (λ less.
+      leading-on left k (h .below k (omega arith) less)
+      ∙ halts-here count left (suc k) n (omega arith)
+      (record { from = less; within = h .within; below = λ j le lt. h .below j (omega arith) lt; stop = h .stop }))
+      (eq-or-lt-of-le (h .from))
+
+  pub halts-alone : (count n : ℕ) → Halts count 0 n → leading start o count 0 ≡ n
+  halts-alone count n h = halts-here count count 0 n (omega arith) h
+
+  -- where starts rise: of `count` starts, from number k on, those below number n are at or below o, and the others are above it
   pub record Leads (count k n : ℕ) : Type 0 where
     pub from : k ≤ n
     pub within : n ≤ count

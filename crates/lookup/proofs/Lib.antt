@@ -1,3 +1,4 @@
+pub mod AnswerAgreement
 pub mod CaseLaws
 pub mod CoveringLaws
 pub mod EntryRows
@@ -12,6 +13,7 @@ pub mod LookLaws
 pub mod NumberLaws
 pub mod OffsetWithinLaws
 pub mod PassedLaws
+pub mod ScanAgreement
 pub mod ScanLaws
 pub mod SearchLaws
 pub mod SizeZero

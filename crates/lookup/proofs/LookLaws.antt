@@ -57,10 +57,13 @@ by-coverage d fs i e (two-or-more k j lowest) =
     let clash : _≡_ {A = ℕ} 2 1 = ap many (sym (two-cover d fs k j lowest) ∙ e) in
     absurd (omega arith)
 
+pub only-one : (d : ℤ) (fs : List Function) (i : ℕ) → coverOf (covering d fs) ≡ One i → OnlyAt d fs i
+only-one d fs i e = by-coverage d fs i e (cover-cases d fs)
+
 pub row-asked : {s : List ℕ} {layout : Layout} {d : ℤ} (i : ℕ) → AcceptedOf s layout → coverOf (covering d (functionsOf s)) ≡ One i
     → RowAsked s layout i d
 row-asked {s} {layout} {d} i section e =
-    let only = by-coverage d (functionsOf s) i e (cover-cases d (functionsOf s)) in
+    let only = only-one d (functionsOf s) i e in
     let listed = rw functions-length at (only .0) in
     record {
       section = section;

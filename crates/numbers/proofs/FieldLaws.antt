@@ -75,9 +75,6 @@ number-is bytes at code order h i = rw (le-leb code 3 h, numberOf) (rw (le-leb (
 
 -- ---- what the layers above ask of a field
 
-part-length : (bytes : List ℕ) (at width : ℕ) → at + width ≤ length bytes → length (take width (drop at bytes)) ≡ width
-part-length bytes at width h = simp (length-take, length-drop) (omega arith)
-
 digits-below : (f : ℕ → ℕ) → ((j : ℕ) → f j < 256) → (n k : ℕ) → digits (valuesOf f n k) < 256 ^ n
 unfolding digits
 digits-below f h zero k = lit< tt
@@ -88,15 +85,3 @@ pub field-below : (bytes : List ℕ) → ((k : ℕ) → getD bytes k 0 < 256) �
     → fieldOf bytes at width order < 256 ^ width
 field-below bytes small at width order h =
     rw (by-digits bytes at width order h) (digits-below _ (λ j. small (digitPlace order at width j)) width 0)
-
--- two lists that agree at the places of a field have the same field there
-pub field-agrees : (bytes other : List ℕ) (at width : ℕ) (order : Order) → at + width ≤ length bytes → at + width ≤ length other
-    → ((k : ℕ) → at ≤ k → k < at + width → getD bytes k 0 ≡ getD other k 0) → fieldOf bytes at width order ≡ fieldOf other at width order
-unfolding fieldOf
-field-agrees bytes other at width order h i same =
-    let long : length (take width (drop at bytes)) ≡ width = part-length bytes at width h in
-    let long′ : length (take width (drop at other)) ≡ width = part-length other at width i in
-    ap (numberIn order) (ext-getD 0 _ _ (long ∙ sym long′) (λ k lt. element k (omega arith)))
-  where
-    element : (k : ℕ) → k < width → getD (take width (drop at bytes)) k 0 ≡ getD (take width (drop at other)) k 0
-    element k lt = simp (getD-take, getD-drop) (same (at + k) (omega arith) (omega arith))

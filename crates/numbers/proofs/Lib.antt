@@ -1,4 +1,5 @@
 pub mod AddressLaws
+pub mod AgreeLaws
 pub mod DiffLaws
 mod Examples
 pub mod FieldLaws

@@ -1,3 +1,4 @@
+pub mod Agree
 pub mod Field
 pub mod Signed
 pub mod Start

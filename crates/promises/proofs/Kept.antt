@@ -15,7 +15,7 @@ use Rattle.promises.proofs.Demand3Met.{demand-3-ours}
 use Rattle.promises.proofs.SameCalls.{same-calls}
 use Rattle.promises.proofs.TableHolds.{table-holds, aarch64-holds}
 
-kept-are-ours : (calls : Calls) → Keeps calls → calls ≡ ours
+pub kept-are-ours : (calls : Calls) → Keeps calls → calls ≡ ours
 unfolding ours
 kept-are-ours calls keeps =
     same-calls calls ours (check-is calls keeps) (lookup-is calls keeps) (step-is calls keeps) (trace-is calls keeps)

@@ -23,6 +23,8 @@ pub mod MeasureLinesDetermined
 pub mod NoChoice
 pub mod NumbersDetermined
 pub mod OrderLaws
+pub mod PassedRowsKept
+pub mod PassedRowsOfS
 pub mod Ran
 pub mod RequiresMet
 pub mod ReturnByLaws

@@ -28,6 +28,7 @@ use Rattle.section.proofs.header.sizes_at.Reads as sizes_at-reads
 use Rattle.section.proofs.row.info_at.Reads as info_at-reads
 use Rattle.section.proofs.row.row_at.Reads as row_at-reads
 use Rattle.section.proofs.row.row_length.Reads as row_length-reads
+use Rattle.section.proofs.row.row_start_at.Reads as row_start_at-reads
 use Rattle.accept.proofs.row_check.check_rows.Reads as check_rows-reads
 use Rattle.listing.proofs.function.facts_at.Reads as facts_at-reads
 use Rattle.lookup.specs.inner.Opened.{lookupOpened}
@@ -116,6 +117,10 @@ unfolding sectionS
 layout_at-met κs here = omega arith
 
 -- the first row
+pub row_start_at-met : (κs : Lfts 1) (here : Lies) → row_start_at-reads.Asked κs (lent here (areaOf sectionS), (Little, (0, (0, tt))))
+unfolding lookupOpened sectionS
+row_start_at-met κs here = (omega arith, omega arith)
+
 pub info_at-met : (κs : Lfts 1) (here : Lies) → info_at-reads.Asked κs (lent here (areaOf sectionS), (0, (0, tt)))
 unfolding lookupOpened sectionS
 info_at-met κs here = (omega arith, omega arith)

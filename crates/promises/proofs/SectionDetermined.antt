@@ -34,6 +34,8 @@ use Rattle.section.proofs.row.row_at.Kinds as row_at-kinds
 use Rattle.section.proofs.row.row_at.Reads as row_at-reads
 use Rattle.section.proofs.row.row_length.Kinds as row_length-kinds
 use Rattle.section.proofs.row.row_length.Reads as row_length-reads
+use Rattle.section.proofs.row.row_start_at.Kinds as row_start_at-kinds
+use Rattle.section.proofs.row.row_start_at.Reads as row_start_at-reads
 use Rattle.section.proofs.shape.abi_of.Kinds as abi_of-kinds
 use Rattle.section.proofs.shape.abi_of.Reads as abi_of-reads
 use Rattle.section.proofs.shape.shape_of.Kinds as shape_of-kinds
@@ -69,6 +71,9 @@ sizes_at-determined κs a z z′ w w′ p q = (p ∙ sym q, refl)
 
 pub layout_at-determined : Determined layout_at-kinds.ps layout_at-kinds.r layout_at-reads.Learnt
 layout_at-determined κs a z z′ w w′ p q = (p ∙ sym q, refl)
+
+pub row_start_at-determined : Determined row_start_at-kinds.ps row_start_at-kinds.r row_start_at-reads.Learnt
+row_start_at-determined κs a z z′ w w′ p q = (p ∙ sym q, refl)
 
 pub info_at-determined : Determined info_at-kinds.ps info_at-kinds.r info_at-reads.Learnt
 info_at-determined κs a z z′ w w′ p q = (p ∙ sym q, refl)

@@ -9,6 +9,7 @@ pub mod Exported
 pub mod FunctionCall
 pub mod ListingCall
 pub mod Listings
+pub mod PassedRows
 pub mod Promises
 pub mod ReaderSays
 pub mod Refusals

@@ -11,6 +11,7 @@ ghost use mathlib.Core.Bool.{_&&_};
 ghost use mathlib.Core.Path.{_≡_};
 ghost use Prim.Native.Nat.{_+_, _*_, _^_, _≤_, _<_};
 ghost use lib.ListN.{length};
+ghost use Rattle.numbers.specs.Field.{fieldOf};
 ghost use Rattle.section.specs.Row.{infoOf, baseOf, countOf, offsetSizeOf, signedBit, offsetsLength, rowLength, offsetIn, placeIn, raIn, rowOf};
 ghost use Rattle.section.specs.inner.Reading.{Readable, Announced};
 
@@ -33,6 +34,14 @@ pub struct Row {
     pub ra: Place,
     pub fp: Place,
     pub signed: bool,
+}
+
+// The start of the row at `at`. Of the row nothing else is read.
+pub fn row_start_at(area: &[u8], order: Order, code: usize, at: usize) -> u64
+    requires { ⌜ (code ≤ 2) × (at + 2 ^ code ≤ length (now area)) ⌝ }
+    ensures { λ r. ⌜ r ≡ fieldOf (now (area .entry)) at (2 ^ code) order ⌝ }
+{
+    field_at(area, at, code, order) as u64
 }
 
 // The info byte of the row at `at`.

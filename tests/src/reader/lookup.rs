@@ -160,9 +160,7 @@ impl<'a> Checked<'a> {
     fn in_function(&self, index: usize, d: i64) -> Outcome {
         let entry = self.0.entry(index);
         let function = index as u64;
-        // Below the function's size, so below 2^32.
-        let within = (d - entry.start) as u32;
-        let o = if entry.is_repeated() { within % u32::from(entry.repeat) } else { within };
+        let o = entry.offset_of(d);
         let last = match entry.start_width() {
             1 => self.last_row::<1>(&entry, o),
             2 => self.last_row::<2>(&entry, o),
@@ -196,7 +194,7 @@ impl<'a> Checked<'a> {
 
 // PC minus the section's address, a whole number. No start and no end of a function is as far from 0 as 2^34, so that
 // what is farther than 2^62 can be brought there: it compares with all of them as before.
-fn distance(address: u64, pc: u64) -> i64 {
+pub(super) fn distance(address: u64, pc: u64) -> i64 {
     let exact = i128::from(pc) - i128::from(address);
     exact.clamp(-(1 << 62), 1 << 62) as i64
 }
@@ -207,6 +205,18 @@ pub(super) fn offset_bytes(info: u8) -> usize {
 }
 
 impl Entry {
+    // o, of a place that the function covers.
+    #[inline(always)]
+    pub(super) fn offset_of(&self, d: i64) -> u32 {
+        // Below the function's size, so below 2^32.
+        let within = (d - self.start) as u32;
+        if self.is_repeated() {
+            within % u32::from(self.repeat)
+        } else {
+            within
+        }
+    }
+
     fn covers(&self, d: i64) -> bool {
         // One comparison for both ends: below the start the difference is negative, and far above every size.
         ((d - self.start) as u64) < u64::from(self.size)

@@ -9,10 +9,11 @@ use lib.IntN.{ℤ}
 use lib.ListN.{getD}
 use Rattle.numbers.specs.declared.field.Order.{Order}
 use Rattle.section.specs.Meaning.{Function}
-use Rattle.section.specs.Row.{rowPlace, rowStart}
+use Rattle.section.specs.Row.{offsetsLength, rowPlace, rowStart}
 use Rattle.lookup.specs.Halving.{emptyFunction, landing, compared}
 use Rattle.lookup.specs.computed.Covering.{covers, covering, coverOf}
 use Rattle.lookup.specs.declared.rows.Stop.{Stop}
+use Rattle.lookup.specs.declared.rows.Told.{Told}
 use Rattle.lookup.specs.declared.search.Cover.{Cover}
 use Rattle.lookup.specs.declared.search.Cover.the-variants.{Nobody, One}
 use Rattle.lookup.specs.declared.search.Search.{Search}
@@ -52,3 +53,11 @@ unfoldable pub stopOf : List ℕ → Order → ℕ → ℕ → ℕ → ℕ → S
 stopOf area order code first count o =
     let rows = leading (λ k. rowStart area order code (rowPlace area code first k)) o count 0 in
     record { rows = rows; place = rowPlace area code first (rows - 1) }
+
+-- whether the row at `at` starts at or below o
+unfoldable pub startsBy : List ℕ → Order → ℕ → ℕ → ℕ → Bool
+startsBy area order code o at = leb (rowStart area order code at) o
+
+-- the length of every row that has this info byte, told beside it
+unfoldable pub toldBy : ℕ → ℕ → Told
+toldBy code info = record { info = info; length = 2 ^ code + 1 + offsetsLength info }

@@ -1,33 +1,47 @@
 //! Times the library's calls against the independent reader's and, where there is one, the system's libsframe, and
 //! measures how much stack the calls use: one table of one run.
 
+mod rows;
 mod sections;
 mod stack;
 mod table;
 mod times;
 
+use std::env;
 use std::time::Instant;
 use suntimpani_tests::libsframe::Libsframe;
 use table::Line;
+
+/// The argument that asks for the table of rows alone.
+const ROWS_ALONE: &str = "rows";
 
 fn main() {
     let begin = Instant::now();
     times::assert_alike_on_stored_cases();
     let libsframe = Libsframe::open();
+    if !env::args().any(|argument| argument == ROWS_ALONE) {
+        print_calls(libsframe.as_ref().ok());
+    }
+    rows::print_lines(libsframe.as_ref().ok());
+    println!();
+    print_notes(libsframe.err());
+    println!("measured in {:.0} s", begin.elapsed().as_secs_f64());
+}
+
+// Every call in every section, and the stack that each call uses.
+fn print_calls(libsframe: Option<&Libsframe>) {
     table::print_head();
     let sections = sections::all();
     let calls =
         [times::of_check, times::of_listing, times::of_entry, times::of_find, times::of_caller, times::of_trace];
     for times in calls {
         for section in &sections {
-            times(section, libsframe.as_ref().ok()).iter().for_each(Line::print);
+            times(section, libsframe).iter().for_each(Line::print);
         }
         println!();
     }
     stack::print_lines();
     println!();
-    print_notes(libsframe.err());
-    println!("measured in {:.0} s", begin.elapsed().as_secs_f64());
 }
 
 fn print_notes(no_libsframe: Option<String>) {
@@ -49,5 +63,11 @@ fn print_notes(no_libsframe: Option<String>) {
     if let Some(why) = no_libsframe {
         println!("No libsframe was timed: {why}.");
     }
+    println!(
+        "rows: a find in one function of so many rows of two offsets, or in turn of two and of one; starts and offsets"
+    );
+    println!(
+        "of so many bytes. a row: the library's time by the rows passed. decoding: a reader that decodes each of them."
+    );
     println!("stack: the most bytes that a call wrote below its return address, over so many calls.");
 }

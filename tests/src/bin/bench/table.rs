@@ -1,5 +1,6 @@
 //! The lines of the table.
 
+use suntimpani_tests::large::Long;
 use suntimpani_tests::timing::Times;
 
 const DASH: &str = "-";
@@ -31,6 +32,74 @@ impl Line {
 
 pub fn print_head() {
     print_cells(["call", "section", "library", "reader", "lib/reader", "libsframe", "lib/libsframe"]);
+}
+
+/// What a find costs in one function of many rows.
+pub struct RowsLine {
+    /// How many rows, how many bytes a start and an offset have, and how the rows are written.
+    name: [String; 4],
+    asked: &'static str,
+    /// The library's times, the reader's, those of the reader that decodes every row and, where there are any,
+    /// libsframe's.
+    times: Vec<Times>,
+    /// How many rows a find passes.
+    passed: f64,
+}
+
+impl RowsLine {
+    pub fn new(long: &Long, asked: &'static str, times: Vec<Times>, passed: f64) -> RowsLine {
+        let written = if long.alike { "alike" } else { "in turn" };
+        let [start, offset] = [long.row_type, long.size_code].map(|code| (1 << code).to_string());
+        RowsLine { name: [long.rows.to_string(), start, offset, written.to_string()], asked, times, passed }
+    }
+
+    pub fn print(&self) {
+        let [rows, start, offset, written] = &self.name;
+        let [library, reader, decoding] = [0, 1, 2].map(|way| &self.times[way]);
+        let ratio = |times: &Times| format!("{:.2}", times.ratio_to(reader));
+        let libsframe = self.times.get(3).map(|times| (duration(times.median()), ratio(times)));
+        let (libsframe, libsframe_ratio) = libsframe.unwrap_or((DASH.to_string(), DASH.to_string()));
+        print_rows_cells([
+            rows,
+            start,
+            offset,
+            written,
+            self.asked,
+            &duration(library.median()),
+            &format!("{:.2} ns", library.median() / self.passed),
+            &duration(reader.median()),
+            &ratio(library),
+            &duration(decoding.median()),
+            &ratio(decoding),
+            &libsframe,
+            &libsframe_ratio,
+        ]);
+    }
+}
+
+pub fn print_rows_head() {
+    print_rows_cells([
+        "rows",
+        "start",
+        "offset",
+        "written",
+        "asked",
+        "library",
+        "a row",
+        "reader",
+        "lib/reader",
+        "decoding",
+        "dec/reader",
+        "libsframe",
+        "libsframe/reader",
+    ]);
+}
+
+fn print_rows_cells(cells: [&str; 13]) {
+    let [rows, start, offset, written, asked, library, a_row, reader, ratio, ..] = cells;
+    let [.., decoding, decoding_ratio, libsframe, libsframe_ratio] = cells;
+    print!("{rows:>7}  {start:>5}  {offset:>6}  {written:<7}  {asked:<11}  {library:>8}  {a_row:>7}  {reader:>8}");
+    println!("  {ratio:>10}  {decoding:>8}  {decoding_ratio:>10}  {libsframe:>9}  {libsframe_ratio:>16}");
 }
 
 /// A line of a call's stack, in the library's column.

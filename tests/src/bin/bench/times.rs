@@ -102,7 +102,7 @@ pub fn of_find(timed: &Timed, libsframe: Option<&Libsframe>) -> Vec<Line> {
     let mut times = match decoded {
         None => turn_about(ROUNDS_OF_FINDS, &mut [&mut library, &mut library_none, &mut reader, &mut reader_none]),
         Some(decoded) => {
-            assert_alike_by_libsframe(timed, &decoded);
+            assert_alike_by_libsframe(&timed.name, section, pcs, &decoded);
             let mut other = || pcs.iter().for_each(|pc| discard(decoded.find(place_of(black_box(*pc)))));
             let ways = &mut [&mut library, &mut library_none, &mut reader, &mut reader_none, &mut other as Way];
             turn_about(ROUNDS_OF_FINDS, ways)
@@ -119,22 +119,22 @@ fn is_sorted(section: &[u8]) -> bool {
 
 // The start and the CFA offset of the row that the reader finds, or none, for every PC. In functions of repeated blocks
 // libsframe 2.44 finds the first byte of each block alone; the time is taken of these PCs too.
-fn assert_alike_by_libsframe(timed: &Timed, decoded: &Decoded) {
-    let Ok(checked) = Checked::open(&timed.bytes) else { panic!("{} is accepted", timed.name) };
-    let functions = reader::functions(&timed.bytes);
-    for pc in &timed.pcs {
+pub fn assert_alike_by_libsframe(name: &str, section: &[u8], pcs: &[u64], decoded: &Decoded) {
+    let Ok(checked) = Checked::open(section) else { panic!("{name} is accepted") };
+    let functions = reader::functions(section);
+    for pc in pcs {
         let (row, plain) = match checked.find(ADDRESS, *pc).outcome {
             Outcome::Found { function, row, .. } => (Some(row), functions[function as usize].block == Block::Plain),
             _ => (None, true),
         };
         let expected = row.map(|row| (row.start, row.cfa_offset as i32));
         let found = decoded.find(place_of(*pc));
-        assert!(found == expected || !plain, "{}, PC {pc:x}: libsframe finds {found:?}", timed.name);
+        assert!(found == expected || !plain, "{name}, PC {pc:x}: libsframe finds {found:?}");
     }
 }
 
 // PC minus the section's address, as libsframe takes it.
-fn place_of(pc: u64) -> i32 {
+pub fn place_of(pc: u64) -> i32 {
     pc.wrapping_sub(ADDRESS) as i32
 }
 
@@ -196,6 +196,6 @@ fn line(call: &'static str, timed: &Timed, times: Vec<Times>) -> Line {
     Line::new(call, &timed.name, library, reader, times.next())
 }
 
-fn discard<T>(value: T) {
+pub fn discard<T>(value: T) {
     black_box(value);
 }

@@ -10,13 +10,13 @@ last : (c : tie.At-match-rest) → c .before .before .args .code ≡ 2
 last c = omega (arith, c .before .before .pre .1)
 
 pass-rows-requires : tie.Need-pass-rows-requires
-pass-rows-requires c κs = rw (c .match .keys1) at (c .before .before .pre .0)
+pass-rows-requires c κs = (rw (c .match .keys1) at (c .before .before .pre .0), omega arith)
 
 pass-rows-requires-2 : tie.Need-pass-rows-requires-2
-pass-rows-requires-2 c κs = rw (c .match .keys2) at (c .before .before .pre .0)
+pass-rows-requires-2 c κs = (rw (c .match .keys2) at (c .before .before .pre .0), omega arith)
 
 pass-rows-requires-3 : tie.Need-pass-rows-requires-3
-pass-rows-requires-3 c κs = rw (last c) at (c .before .before .pre .0)
+pass-rows-requires-3 c κs = (rw (last c) at (c .before .before .pre .0), omega arith)
 
 returns : tie.Need-returns
 returns c = rw (c .before .match .keys1) (c .pass-rows .ensures)
