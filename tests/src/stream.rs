@@ -123,9 +123,13 @@ fn sound_function(random: &mut Random, machine: Machine) -> Function {
 fn sound_rows(random: &mut Random, machine: Machine, row_type: u8) -> Vec<Row> {
     let step = [50, 0x3000, 0x3000_0000][usize::from(row_type)];
     let mut start = random.pick(&[0, 0, 0, 3]);
-    let mut rows = Vec::new();
+    let mut rows: Vec<Row> = Vec::new();
     for _ in 0..random.below(6) {
-        rows.push(sound_row(random, machine, start));
+        let row = match rows.last() {
+            Some(before) if random.once_in(2) => row_like(random, before, start),
+            _ => sound_row(random, machine, start),
+        };
+        rows.push(row);
         start += if random.once_in(2) { 1 } else { 1 + random.below(step) as u32 };
     }
     rows
@@ -133,13 +137,21 @@ fn sound_rows(random: &mut Random, machine: Machine, row_type: u8) -> Vec<Row> {
 
 fn sound_row(random: &mut Random, machine: Machine, start: u32) -> Row {
     let size_code = random.below(3) as u8;
-    let count = 1 + random.below(machine.most_offsets().into());
-    let shift = 32 - (8 << size_code);
-    let offsets: Vec<i32> = (0..count).map(|_| random.number() as i32 >> shift).collect();
-    let mut row = Row::new(start, size_code, &offsets);
+    let count = 1 + random.below(machine.most_offsets().into()) as u8;
+    let mut row = Row::new(start, size_code, &offsets(random, size_code, count));
     row.sp_base = random.once_in(2);
     row.signed = random.once_in(3);
     row
+}
+
+// Written as the row before it, with offsets of its own.
+fn row_like(random: &mut Random, before: &Row, start: u32) -> Row {
+    Row { start, offsets: offsets(random, before.size_code, before.count), ..before.clone() }
+}
+
+fn offsets(random: &mut Random, size_code: u8, count: u8) -> Vec<i32> {
+    let shift = 32 - (8 << size_code);
+    (0..count).map(|_| random.number() as i32 >> shift).collect()
 }
 
 // Sizes and effective starts; in order, and often adjoining, where the section is sorted, and else often overlapping.

@@ -113,3 +113,23 @@ fn what_is_not_looked_at_changes_no_answer() {
     );
     assert!(times.offsets > 10_000 && times.behind > 100 && times.found > 10_000);
 }
+
+// Why a scan that guesses a row's length by the row before is worth it in a real section.
+#[test]
+fn most_neighbours_in_gnu_as_have_one_info_byte() {
+    let section = cases::corpus_section("gas_exe");
+    let (mut pairs, mut alike) = (0, 0);
+    for (index, function) in (0..).zip(functions(&section)) {
+        let rows = rows_of(&section, index);
+        let mut place = rows.at as usize;
+        let mut infos = Vec::new();
+        for _ in &function.rows {
+            let info = section[place + (1 << rows.row_type)];
+            place += (1 << rows.row_type) + 1 + (usize::from(info >> 1 & 0xf) << (info >> 5 & 0x3));
+            infos.push(info);
+        }
+        pairs += infos.windows(2).count();
+        alike += infos.windows(2).filter(|pair| pair[0] == pair[1]).count();
+    }
+    assert_eq!((pairs, alike), (21_936, 19_413));
+}

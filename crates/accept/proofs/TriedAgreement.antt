@@ -1,6 +1,6 @@
 -- What the checks of rows look at decides what they find: two row areas of one length that agree on the starts and info bytes of the rows
 -- that are tried (specs/Tried) have the same fault, or none, whatever their offsets are. Assumes nothing.
-use mathlib.Core.Path.{_≡_, refl, sym, _∙_, ap}
+use mathlib.Core.Path.{_≡_, refl, ap}
 use mathlib.Core.List.{List}
 use mathlib.Core.Logic.{⊎-elim}
 use Prim.Native.Nat.{ℕ, zero, suc, _+_, _^_, _≤_, _<_}

@@ -3,16 +3,14 @@
 use mathlib.Core.Path.{_≡_, refl, sym, _∙_, ap, fun-ext}
 use mathlib.Core.Bool.{Bool, true, false}
 use mathlib.Core.List.{List}
-use Prim.Native.Nat.{ℕ, _+_, _*_, _≤_, _<_}
-use native.Mathlib.Omega.{arith}
+use Prim.Native.Nat.{ℕ, _≤_, _<_}
 use lib.Dec.{ltb}
 use lib.IntN.{ℤ}
-use lib.ListN.{length, getD, List·getD-eq-default}
+use lib.ListN.{length, List·getD-eq-default}
 use borrow.Author.Tests.{ltb-true, ltb-false}
 use Rattle.numbers.specs.Start.{distance}
-use Rattle.section.specs.Entry.{typeOf}
 use Rattle.section.specs.Header.{layoutOf}
-use Rattle.section.specs.Meaning.{listed, areaOf, shapeOf, entryIn, rowIn, functionIn, functionsOf}
+use Rattle.section.specs.Meaning.{areaOf, shapeOf, entryIn, functionIn, functionsOf}
 use Rattle.section.proofs.PartAgreement.{layout-agrees, entries-agree}
 use Rattle.accept.specs.Rules.{functionCount}
 use Rattle.accept.specs.computed.Checks.{verdict}
@@ -23,12 +21,11 @@ use Rattle.lookup.specs.Halving.{emptyFunction, startsAtMost, landing, c
 use Rattle.lookup.specs.Scanned.{LookAlike}
 use Rattle.lookup.specs.computed.Answers.{withRow, withCover, outcome, answer, answerOf, answerAfter, lookupOf}
 use Rattle.lookup.specs.computed.Covering.{covers, covering, coverOf}
-use Rattle.lookup.specs.computed.Rows.{offsetWithin, lastRow, rowFor}
-use Rattle.lookup.specs.declared.answer.Answer.{Answer}
+use Rattle.lookup.specs.computed.Rows.{offsetWithin, rowFor}
 use Rattle.lookup.specs.declared.search.Cover.{Cover}
 use Rattle.lookup.specs.declared.search.Cover.the-variants.{Nobody, One, Two}
 use Rattle.lookup.proofs.CaseLaws.{functions-at, functions-count, at-covers}
-use Rattle.lookup.proofs.CoveringLaws.{by-value, coversAt, OnlyAt, covering-alike}
+use Rattle.lookup.proofs.CoveringLaws.{by-value, coversAt, covering-alike}
 use Rattle.lookup.proofs.LookLaws.{only-one}
 use Rattle.lookup.proofs.OffsetWithinLaws.{offset-is}
 use Rattle.lookup.proofs.ScanAgreement.{last-row-agrees}

@@ -14,7 +14,7 @@ use Rattle.numbers.specs.declared.field.Order.{Order}
 use Rattle.numbers.proofs.AgreeLaws.{part-agrees}
 use Rattle.section.specs.Entry.{typeOf}
 use Rattle.section.specs.Meaning.{listed, rowIn}
-use Rattle.section.specs.Row.{infoOf, countOf, rowLength, rowPlace, rowStart, rowOf}
+use Rattle.section.specs.Row.{infoOf, countOf, rowLength, rowPlace, rowOf}
 use Rattle.section.specs.declared.entry.Entry.{Entry}
 use Rattle.section.specs.declared.shape.Shape.{Shape}
 use Rattle.section.proofs.RowAgreement.{start-agrees, length-agrees, row-agrees}
@@ -23,7 +23,7 @@ use Rattle.accept.specs.declared.verdict.Fault.the-variants.{Sound}
 use Rattle.accept.proofs.RowLaws.{entry-readable}
 use Rattle.lookup.specs.Scanned.{startIn, RowPassed, LastPassed, StopsAt, LookedAt, of-passed, of-found, of-stop}
 use Rattle.lookup.specs.computed.Rows.{lastRow}
-use Rattle.lookup.specs.inner.Search.{leading, stopOf}
+use Rattle.lookup.specs.inner.Search.{stopOf}
 use Rattle.lookup.proofs.CoveringLaws.{by-value}
 use Rattle.lookup.proofs.EntryRows.{entryStop, stop-none, stop-last}
 use Rattle.lookup.proofs.LastRowLaws.{Halts, halts, halts-alone}

@@ -1,7 +1,7 @@
 -- Two lists that agree on the places of a part, or of a field, have the same part and the same field there, whatever their lengths.
 -- Assumes nothing.
 use mathlib.Core.Path.{_≡_, refl, ap}
-use mathlib.Core.List.{List, _++_}
+use mathlib.Core.List.{List}
 use Prim.Native.Nat.{ℕ, zero, suc, _+_}
 use native.Mathlib.Omega.{arith}
 use lib.ListN.{take, drop}

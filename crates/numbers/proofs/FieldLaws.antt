@@ -7,8 +7,8 @@ use Prim.Native.Nat.{ℕ, zero, suc, _+_, _-_, _^_, _≤_, _<_}
 use native.Mathlib.Nat.{add-zero, sub-zero, zero-sub, suc-sub-suc, pow-succ'}
 use native.Mathlib.Omega.{arith}
 use lib.Dec.{lit<}
-use lib.ListN.{length, take, drop, getD, length-take, length-drop}
-use lib.Seq.{take-suc, drop-cons, getD-drop, getD-take, take-nil, take-take, drop-drop, ext-getD}
+use lib.ListN.{length, take, drop, getD, length-drop}
+use lib.Seq.{take-suc, drop-cons, getD-drop, take-nil, take-take, drop-drop}
 use borrow.Author.Tests.{le-leb, lt-leb}
 use Rattle.numbers.specs.Field.{digits, numberIn, fieldOf, byteOf}
 use Rattle.numbers.specs.computed.Number.{numberOf}

@@ -1,10 +1,9 @@
 -- What is promised of the rows that are passed is kept by every four calls that keep the contracts of ours.
 -- Assumes nothing.
-use mathlib.Core.Path.{_≡_, refl, sym, _∙_, ap, subst}
+use mathlib.Core.Path.{_≡_, refl, sym, ap, subst}
 use mathlib.Core.List.{List}
 use Prim.Native.Nat.{ℕ}
 use Rattle.numbers.specs.Start.{distance}
-use Rattle.section.specs.Header.{layoutOf}
 use Rattle.section.specs.Meaning.{shapeOf}
 use Rattle.section.specs.Shape.{shape}
 use Rattle.section.proofs.PartAgreement.{layout-agrees}
@@ -21,8 +20,6 @@ use Rattle.caller.specs.declared.registers.Asked.the-variants.{At}
 use Rattle.caller.specs.declared.registers.Registers.{Registers}
 use Rattle.caller.specs.declared.registers.Where.{Where}
 use Rattle.caller.proofs.Exactly.{through-finding}
-use Rattle.promises.specs.Calls.{Calls}
-use Rattle.promises.specs.Contracts.{Keeps}
 use Rattle.promises.specs.PassedRows.{PassesRows, RowsPassed}
 use Rattle.promises.specs.computed.Ours.{ours}
 use Rattle.promises.proofs.Kept.{kept-are-ours}

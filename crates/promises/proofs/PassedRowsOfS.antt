@@ -8,7 +8,7 @@ use native.Mathlib.Omega.{arith}
 use lib.Dec.{ltb}
 use lib.IntN.{ℤ}
 use lib.ListN.{take, drop, set}
-use lib.Seq.{drop-drop, drop-set-lt, drop-set-add, take-set-le}
+use lib.Seq.{drop-set-lt, drop-set-add, take-set-le}
 use borrow.Author.Tests.{ltb-true, ltb-false}
 use Rattle.numbers.specs.Start.{distance}
 use Rattle.numbers.specs.inner.Held.{natural}

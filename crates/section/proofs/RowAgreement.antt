@@ -11,7 +11,7 @@ use Rattle.numbers.specs.Agree.{InSpan, AgreeOn}
 use Rattle.numbers.specs.Signed.{offsetOf}
 use Rattle.numbers.specs.declared.field.Order.{Order}
 use Rattle.numbers.proofs.AgreeLaws.{field-agrees, byte-agrees}
-use Rattle.section.specs.Row.{infoOf, countOf, offsetSizeOf, offsetsLength, rowLength, rowStart, offsetIn, placeIn, raIn, rowOf}
+use Rattle.section.specs.Row.{infoOf, countOf, offsetSizeOf, rowLength, rowStart, offsetIn, placeIn, raIn, rowOf}
 use Rattle.section.specs.declared.row.Place.{Place}
 use Rattle.section.specs.declared.row.Place.the-variants.{AtOffset}
 use Rattle.section.specs.declared.shape.Shape.{Shape}

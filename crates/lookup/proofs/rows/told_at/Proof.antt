@@ -1,7 +1,7 @@
 -- `rows::told_at` answers with what is known where the info byte is the one that is known, and else with the row's own.
 -- Assumes nothing.
 use borrow.Author.Needs.{needs}
-use mathlib.Core.Path.{_≡_, sym, _∙_, ap}
+use mathlib.Core.Path.{sym, _∙_, ap}
 use Rattle.section.specs.Row.{rowLength}
 use Rattle.lookup.specs.inner.Search.{toldBy}
 use Rattle.lookup.proofs.rows.told_at.Statement.{statement}
