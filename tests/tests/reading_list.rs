@@ -1,6 +1,6 @@
 //! docs/PROMISES.md begins with the lists of the definitions that must be believed: one for the three demands, one for the
-//! listing, and one for the rows that are passed. Each must be closed: what a file of it uses of ours stands on it, further up, or on a list before it; and each file
-//! has as many lines as the list says, and all have what the page says.
+//! listing, and one for the rows that are passed. Each must be closed: what a file of it uses of ours stands on it, further
+//! up, or on a list before it; and each file has as many lines as the list says, and all have what the page says.
 
 use std::fs;
 use suntimpani_tests::in_repository;

@@ -92,22 +92,35 @@ const SLIPS: [(&str, Slip); 43] = [
 #[test]
 fn every_slip_is_noticed() {
     let mut noticed = [0; SLIPS.len()];
-    for case in cases::all().iter().filter(|case| case.expected == Verdict::Accepted) {
-        let header = Header::read(&case.section).expect("an accepted section has a header");
-        let functions = functions(&case.section);
-        for question in &case.questions {
-            let (address, pc, right) = (question.address, question.pc, question.expected);
-            let asked = Asked { section: &case.section, header, functions: &functions, address, pc, right };
-            for ((_, slip), times) in SLIPS.iter().zip(&mut noticed) {
-                *times += u32::from(slip(&asked) != right);
-            }
+    for_each_question(|asked| {
+        for ((_, slip), times) in SLIPS.iter().zip(&mut noticed) {
+            *times += u32::from(slip(asked) != asked.right);
         }
-    }
+    });
     for ((name, _), times) in SLIPS.iter().zip(noticed) {
         println!("{times:>5} questions notice that {name}");
     }
     for ((name, _), times) in SLIPS.iter().zip(noticed) {
         assert!(times > 0, "no question notices that {name}");
+    }
+}
+
+// The slips in a row's length are made in a scan that is right with the right length.
+#[test]
+fn the_right_length_comes_to_the_right_answer() {
+    let right: Slip = |a| a.by_scan(|p| p.width + 1 + count(p.info) * size(p.info));
+    for_each_question(|asked| assert_eq!(right(asked), asked.right, "PC {:x}, section {:x?}", asked.pc, asked.section));
+}
+
+// Every stored question about an accepted section.
+fn for_each_question(mut ask: impl FnMut(&Asked)) {
+    for case in cases::all().iter().filter(|case| case.expected == Verdict::Accepted) {
+        let header = Header::read(&case.section).expect("an accepted section has a header");
+        let functions = functions(&case.section);
+        for question in &case.questions {
+            let (address, pc, right) = (question.address, question.pc, question.expected);
+            ask(&Asked { section: &case.section, header, functions: &functions, address, pc, right });
+        }
     }
 }
 

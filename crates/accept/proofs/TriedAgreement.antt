@@ -15,7 +15,7 @@ use Rattle.section.specs.Meaning.{areaOf, shapeOf, entryIn}
 use Rattle.section.specs.Row.{rowPlace}
 use Rattle.section.specs.declared.entry.Entry.{Entry}
 use Rattle.section.specs.declared.shape.Shape.{Shape}
-use Rattle.section.proofs.PartAgreement.{magic-agrees, order-agrees, marks-agree, sizes-agree, layout-agrees, entries-agree}
+use Rattle.section.proofs.PartAgreement.{magic-agrees, order-agrees, marks-agree, sizes-agree, layout-agrees, shape-agrees, entries-agree}
 use Rattle.section.proofs.RowAgreement.{start-agrees, info-agrees, length-agrees}
 use Rattle.accept.specs.Tried.{RowTried, TriedAt, CheckAlike}
 use Rattle.accept.specs.computed.Checks.{givenAt, thenTry, firstOf, faultOf, headerTests, headerFault, entryTests, rowTests, rowFault, lowOf, rowFaultIn, rowsFault, entryFault, outOfOrder, turnFault, rowsBelow, sumFault, entriesVerdict, verdict}
@@ -124,14 +124,10 @@ module _ (s t : List ℕ) (alike : CheckAlike s t) where
   unfolding areaOf
   as-long = simp length-drop (rw (one-layout, alike .long))
 
-  one-shape : shapeOf s ≡ shapeOf t
-  unfolding shapeOf
-  one-shape = rw one-layout
-
   one-entry-fault : (i : ℕ) → i < layoutOf s .functions
       → entryFault (areaOf s) (shapeOf s) (entryIn s i) ≡ entryFault (areaOf t) (shapeOf t) (entryIn t i)
   one-entry-fault i lt =
-      rw (← one-shape, ← one-entry i lt) (entry-fault-agrees (areaOf s) (areaOf t) (shapeOf s) (entryIn s i) as-long (alike .rows i lt))
+      rw (← shape-agrees s t (alike .header), ← one-entry i lt) (entry-fault-agrees (areaOf s) (areaOf t) (shapeOf s) (entryIn s i) as-long (alike .rows i lt))
 
   one-order : (i : ℕ) → i < layoutOf s .functions → outOfOrder s i ≡ outOfOrder t i
   unfolding outOfOrder

@@ -1,6 +1,6 @@
 -- Which bytes checks 11 to 13 of one function's rows look at (SPECIFICATION 3.20): of each row that is tried its start and its info byte.
 -- What its offsets are is never looked at, only how long they are, which the info byte tells. `count` rows begin at `first` of the row area,
--- and the length of the row area is known. Any row area will do.
+-- whose length is looked at too. Any row area will do.
 use mathlib.Core.Path.{_≡_}
 use mathlib.Core.List.{List}
 use Prim.Native.Nat.{ℕ, _+_, _*_, _^_, _<_}

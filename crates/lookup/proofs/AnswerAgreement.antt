@@ -11,7 +11,7 @@ use borrow.Author.Tests.{ltb-true, ltb-false}
 use Rattle.numbers.specs.Start.{distance}
 use Rattle.section.specs.Header.{layoutOf}
 use Rattle.section.specs.Meaning.{areaOf, shapeOf, entryIn, functionIn, functionsOf}
-use Rattle.section.proofs.PartAgreement.{layout-agrees, entries-agree}
+use Rattle.section.proofs.PartAgreement.{layout-agrees, shape-agrees, entries-agree}
 use Rattle.accept.specs.Rules.{functionCount}
 use Rattle.accept.specs.computed.Checks.{verdict}
 use Rattle.accept.specs.declared.verdict.Verdict.the-variants.{Accepted}
@@ -33,10 +33,6 @@ use Rattle.lookup.proofs.ScanAgreement.{last-row-agrees}
 module _ (s t : List ℕ) (d : ℤ) (alike : LookAlike s t d) where
   one-layout : layoutOf s ≡ layoutOf t
   one-layout = layout-agrees s t (alike .header)
-
-  one-shape : shapeOf s ≡ shapeOf t
-  unfolding shapeOf
-  one-shape = rw one-layout
 
   -- ---- entries and what they say of their functions
 
@@ -110,8 +106,8 @@ module _ (s t : List ℕ) (d : ℤ) (alike : LookAlike s t d) where
         let sound = accepted-laws s accepted .entries i inside in
         let sound′ = accepted-laws t also .entries i (rw one-count at inside) in
         let same = alike .rows i o covered (offset-is s accepted d i covered) in
-        rw (← one-offset i inside, ← one-shape, ← one-entry i inside)
-        (last-row-agrees (areaOf s) (areaOf t) (shapeOf s) (entryIn s i) o sound (rw (← one-shape, ← one-entry i inside) at sound′) same)
+        rw (← one-offset i inside, ← shape-agrees s t (alike .header), ← one-entry i inside)
+        (last-row-agrees (areaOf s) (areaOf t) (shapeOf s) (entryIn s i) o sound (rw (← shape-agrees s t (alike .header), ← one-entry i inside) at sound′) same)
 
     -- the cover is one and the same
     with-cover : (cover : Cover) → coverOf (covering d (functionsOf s)) ≡ cover

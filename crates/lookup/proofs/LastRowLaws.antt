@@ -132,7 +132,7 @@ module _ (start : ℕ → ℕ) (o : ℕ) where
   pub halts-alone : (count n : ℕ) → Halts count 0 n → leading start o count 0 ≡ n
   halts-alone count n h = halts-here count count 0 n (omega arith) h
 
-  -- where starts rise: of `count` starts, from number k on, those below number n are at or below o, and the others are above it
+  -- where starts rise, all others are above o too
   pub record Leads (count k n : ℕ) : Type 0 where
     pub from : k ≤ n
     pub within : n ≤ count
@@ -140,28 +140,16 @@ module _ (start : ℕ → ℕ) (o : ℕ) where
     pub past : (j : ℕ) → n ≤ j → j < count → o < start j
 
   module _ (count : ℕ) (rising : (j k : ℕ) → j < k → k < count → start j < start k) where
-    leads-from : (left k : ℕ) → k + left ≡ count → Leads count k (leading start o left k)
-    unfolding leading
-    leads-from zero k e =
-        record { from = omega arith; within = omega arith; below = λ j le lt. absurd (omega arith); past = λ j le lt. absurd (omega arith) }
-    leads-from (suc left) k e =
-        by-test (not-below o (start k))
-        (λ above.
-        let lt : o < start k = omega arith in
-        rw (leading-stop left k lt)
-        (record {
-          from = omega arith;
-          within = omega arith;
-          below = λ j le less. absurd (omega arith);
-          past = from-here k (λ inside. lt) (λ j less inside. omega (arith, rising k j less inside));
-        }))
-        (λ here.
-        let rest = leads-from left (suc k) (omega arith) in
-        rw (leading-on left k here)
-        (record { from = omega arith; within = rest .within; below = from-here k (λ lt. here) (rest .below); past = rest .past }))
-
     pub leads : Leads count 0 (leading start o count 0)
-    leads = leads-from count 0 (omega arith)
+    leads =
+        let scan = halts count in
+        let end = leading start o count 0 in
+        record {
+          from = scan .from;
+          within = scan .within;
+          below = scan .below;
+          past = from-here end (scan .stop) (λ j less inside. omega (arith, rising end j less inside, scan .stop (omega arith)));
+        }
 
     -- so it ends one past the last row at or below o, for rows with these starts
     module _ (f : ℕ → Row) (same : (k : ℕ) → k < count → start k ≡ f k .start) where

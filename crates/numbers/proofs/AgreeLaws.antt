@@ -11,10 +11,6 @@ use Rattle.numbers.specs.Field.{numberIn, fieldOf, byteOf}
 use Rattle.numbers.specs.declared.field.Order.{Order}
 use Rattle.numbers.specs.declared.field.Order.the-variants.{Little}
 
--- lists that agree on some places agree on fewer
-pub agree-fewer : {bytes other : List ℕ} {P Q : ℕ → Type 0} → ((p : ℕ) → Q p → P p) → AgreeOn P bytes other → AgreeOn Q bytes other
-agree-fewer fewer same p said = same p (fewer p said)
-
 module _ (bytes other : List ℕ) where
   -- of what the two have from a place on, so much is the same
   pub part-agrees : (at width : ℕ) → AgreeOn (InSpan at width) bytes other → take width (drop at bytes) ≡ take width (drop at other)

@@ -5,8 +5,7 @@ use mathlib.Core.List.{List}
 use Prim.Native.Nat.{ℕ}
 use Rattle.numbers.specs.Start.{distance}
 use Rattle.section.specs.Meaning.{shapeOf}
-use Rattle.section.specs.Shape.{shape}
-use Rattle.section.proofs.PartAgreement.{layout-agrees}
+use Rattle.section.proofs.PartAgreement.{shape-agrees}
 use Rattle.accept.specs.computed.Checks.{verdict}
 use Rattle.accept.specs.declared.verdict.Verdict.the-variants.{Accepted}
 use Rattle.accept.proofs.TriedAgreement.{verdict-agrees}
@@ -34,11 +33,11 @@ module _ (s t : List ℕ) (accepted : verdict s ≡ Accepted) (also : verdict t 
   one-step : (stack : List ℕ) (lies : Where) (registers : Registers)
       → ((pc : ℕ) → askedOf registers ≡ At pc → LookAlike s t (distance (lies .section) pc))
       → stepIn s stack lies registers ≡ stepIn t stack lies registers
-  unfolding stepIn stepAfter shapeOf lookAt askedOf
+  unfolding stepIn stepAfter lookAt askedOf
   one-step stack lies registers alike =
       let here = alike (registers .pc) refl in
       let step = through-finding (shapeOf s) (shapeOf t) (lookIn s (lies .section)) (lookIn t (lies .section)) stack lies registers
-      (ap (λ layout. shape (layout .abi)) (layout-agrees s t (here .header))) (one-finding (lies .section) (registers .pc) here) in
+      (shape-agrees s t (here .header)) (one-finding (lies .section) (registers .pc) here) in
       rw (accepted, also, step)
 
 pub passes-rows : PassesRows ours

@@ -12,7 +12,7 @@ use Rattle.numbers.specs.declared.field.Order.the-variants.{Little, Big}
 use Rattle.numbers.proofs.AgreeLaws.{field-agrees, byte-agrees}
 use Rattle.section.specs.Entry.{entryOf}
 use Rattle.section.specs.Header.{magicIn, orderOf, marksOf, sizesOf, layoutOf}
-use Rattle.section.specs.Meaning.{entryIn}
+use Rattle.section.specs.Meaning.{shapeOf, entryIn}
 
 module _ (s t : List ℕ) (at width : ℕ) (same : AgreeOn (InSpan at width) s t) where
   -- a field, or a byte, of the part that agrees
@@ -68,6 +68,10 @@ module _ (s t : List ℕ) (same : AgreeOn (InSpan 0 28) s t) where
   pub layout-agrees : layoutOf s ≡ layoutOf t
   unfolding layoutOf
   layout-agrees = rw (marks-agree, order-agrees, sizes-agree (orderOf t))
+
+  pub shape-agrees : shapeOf s ≡ shapeOf t
+  unfolding shapeOf
+  shape-agrees = rw layout-agrees
 
   -- and where they agree on the function table, the same entries
   pub entries-agree : AgreeOn (InSpan (layoutOf s .table) (20 * layoutOf s .functions)) s t → (i : ℕ) → i < layoutOf s .functions
