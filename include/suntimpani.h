@@ -66,11 +66,14 @@
  *     14  the sorted flag is set, and an entry's start is below the start plus size of the entry before it
  *     15  the row counts of all entries do not add up to the header's
  *
- * By lookup, caller and trace, on the PC:
+ * By lookup, caller and trace, on the PC that is looked up: by a lookup the PC handed in, by a caller PC of the
+ * registers with the first-frame mark, and PC - 1 without it. There PC is a return address, which stands behind its
+ * call, and where the call is the last instruction of its function, behind the function. A trace goes from caller to
+ * caller.
  *
- *     21  no function covers the PC
+ *     21  no function covers it; by a caller also where PC is 0 without the mark, so that there is none to look up
  *     22  two or more functions cover it
- *     23  one function covers it, and none of its rows starts at or below the PC
+ *     23  one function covers it, and none of its rows starts at or below it
  *
  * By caller and trace, on the registers and the stack. CFA is the value of SP in the caller, RA the return address:
  *
@@ -108,7 +111,7 @@
 #include <stdint.h>
 
 /* The version of this header and of the archive beside it. */
-#define SUNTIMPANI_VERSION "0.2.1"
+#define SUNTIMPANI_VERSION "0.3.0"
 
 #ifdef __cplusplus
 extern "C" {
@@ -237,19 +240,22 @@ suntimpani_rows suntimpani_rows_of(const uint8_t *section, size_t length, uint64
  * by a count of 0. */
 suntimpani_row suntimpani_next_row(const uint8_t *section, size_t length, suntimpani_rows rows);
 
-/* The function and the row for a PC, in a section whose first byte lies at `address`. */
+/* The function and the row for a PC, in a section whose first byte lies at `address`. The PC is looked up as it is: ask
+ * for a return address minus 1, as a caller does, where the function that called is meant. */
 suntimpani_answer suntimpani_lookup(const uint8_t *section, size_t length, uint64_t address, uint64_t pc);
 
 /* One caller. Hand `first` in as 1 for the registers of the crash, and take the answer's registers for the next step:
- * their `first` is 0. On a refusal the registers come back exactly as they were, `first` included. */
+ * their `first` is 0. PC itself is looked up with `first`, and PC - 1 where it is 0; the caller's PC is RA as it was
+ * read all the same. On a refusal the registers come back exactly as they were, `first` included. */
 suntimpani_step suntimpani_caller(const uint8_t *section, size_t length, const uint8_t *stack, size_t stack_length,
                                   suntimpani_where where, suntimpani_registers registers);
 
 /* The whole trace from the registers of the crash, whatever their `first`. Limit 0 means 64; otherwise it is 1 to 256.
  *
  * The buffer has at least 3 words of 64 bits for each frame of the limit: 192 for limit 0, 768 for 256. `words` is how
- * many it has. Frame i is words 3i, 3i + 1 and 3i + 2: CFA, RA and the caller's FP. Every word behind the frames that
- * the answer counts keeps what it held; after 1 to 15 and 41 to 43 that is every word. */
+ * many it has. Frame i is words 3i, 3i + 1 and 3i + 2: CFA, RA and the caller's FP. RA is as it was read, and may be
+ * the first byte behind the function that called, so that the next frame is found at RA - 1. Every word behind the
+ * frames that the answer counts keeps what it held; after 1 to 15 and 41 to 43 that is every word. */
 suntimpani_traced suntimpani_trace(const uint8_t *section, size_t length, const uint8_t *stack, size_t stack_length,
                                    suntimpani_where where, suntimpani_registers registers, uint64_t limit,
                                    uint64_t *buffer, size_t words);

@@ -1,4 +1,4 @@
-/* A crash recorder: a program that faults three calls deep and, in the handler of the signal, walks its own stack with
+/* A crash recorder: a program that faults four calls deep and, in the handler of the signal, walks its own stack with
  * Suntimpani and holds every frame against what it noted on the way down. x86-64 and AArch64 Linux.
  *
  *     recorder                 prints the trace and says whether each frame is as expected
@@ -39,28 +39,44 @@ static int recording;
 #define NOTE_RETURN(self) (seen.expected[self].ra = (uint64_t)(uintptr_t)__builtin_return_address(0))
 
 #define APART __attribute__((noinline))
+#define NEVER_RETURNS __attribute__((noreturn))
 
 static volatile int *volatile nowhere;
 static volatile int depth;
 
 /* The fault: in the body of a function that keeps no frame pointer. */
-static APART int third(int value) {
+static APART NEVER_RETURNS void third(int value) {
     volatile int kept[40];
     NOTE_RETURN(IN_THIRD);
     kept[value] = value;
-    *nowhere = value;
-    return kept[depth];
+    *nowhere = kept[value];
+    __builtin_trap();
 }
+
+/* Its last instruction is the call, since nothing comes back from it: the return address is the first byte behind this
+ * function, where another one begins. */
+static APART NEVER_RETURNS void last(int value) {
+    volatile int kept[20];
+    NOTE_RETURN(IN_LAST);
+    kept[value] = value + 1;
+    value = kept[value];
+    NOTE_CALL(IN_THIRD, value);
+    third(value);
+}
+
+/* Read when it is called, so that the compiler does not know that nothing comes back from here either. */
+static void (*volatile called_last)(int) = last;
 
 /* The room by alloca makes the compiler count from a frame pointer. */
 static APART int second(int value) {
+    void (*called)(int) = called_last;
     volatile char *room = (volatile char *)alloca((size_t)value + 100);
     NOTE_RETURN(IN_SECOND);
     room[value] = (char)value;
     value++;
-    NOTE_CALL(IN_THIRD, value);
-    value = third(value);
-    return value + room[depth];
+    NOTE_CALL(IN_LAST, value);
+    called(value);
+    return room[depth];
 }
 
 /* Room of a fixed size, counted from SP. */

@@ -19,7 +19,7 @@ typedef struct {
 } frame;
 
 /* The functions that are called on the way to the fault, innermost first, as a trace has them. */
-enum { IN_THIRD, IN_SECOND, IN_FIRST, IN_MAIN, FRAMES };
+enum { IN_THIRD, IN_LAST, IN_SECOND, IN_FIRST, IN_MAIN, FRAMES };
 
 /* How many frames a trace may have, and the ending that is expected: where main returns to is covered by no function of
  * this program's section. */

@@ -408,6 +408,57 @@ static void steps(void) {
     compare_steps("a stack past 2^64", suntimpani_caller(S, 78, STACK, 64, high, marked), past_the_end);
 }
 
+/* A step from SP and FP 0x7000 at a PC, with the mark or without, in a section that lies at an address. */
+static void compare_call(const char *what, const uint8_t *section, uint64_t address, uint64_t pc, uint64_t first,
+                         suntimpani_step wanted) {
+    static const uint8_t stack[16] = {0x38, 0x70, 0, 0, 0, 0, 0, 0, 0x44, 0x10, 0x40, 0, 0, 0, 0, 0};
+    const suntimpani_where lies = {address, 0x7000};
+    suntimpani_registers registers = {0, 0x7000, 0x7000, 0, 0};
+    registers.pc = pc;
+    registers.first = first;
+    if (wanted.number > 0) {
+        wanted.registers = registers;
+    }
+    compare_steps(what, suntimpani_caller(section, 78, stack, 16, lies, registers), wanted);
+}
+
+/* PC itself is looked up with the mark, PC - 1 without it. The rows of S lead to different callers: CFA is SP + 8, or
+ * FP + 16 with FP's word below RA's. */
+static void last_calls(void) {
+    const suntimpani_step by_entry = {{0x7038, 0x7008, 0x7000, 0, 0}, 0, 0};
+    const suntimpani_step by_frame = {{0x401044, 0x7010, 0x7038, 0, 0}, 0, 0};
+    const suntimpani_step none = {{0, 0, 0, 0, 0}, 21, 0}, no_row = {{0, 0, 0, 0, 0}, 23, 0};
+    const suntimpani_answer neighbour = {0, 1, 0, 1, 0, 0, 1, 8, 1, -8, 0, 0, 0};
+    const uint64_t top = 0 - (uint64_t)0x1020;
+    uint8_t adjacent[78], late[78], repeated[78], below[78];
+    memcpy(adjacent, S, 78);
+    memcpy(late, S, 78);
+    memcpy(repeated, S, 78);
+    memcpy(below, S, 78);
+    adjacent[48] = 0x20;
+    late[36] = 3;
+    late[40] = 1;
+    late[12] = 2;
+    repeated[44] = repeated[45] = 0x10;
+    below[29] = 0xf0;
+    below[30] = below[31] = 0xff;
+    compare_call("a last call", adjacent, ADDRESS, 0x401020, 0, by_frame);
+    compare_call("a crash in its neighbour", adjacent, ADDRESS, 0x401020, 1, by_entry);
+    compare_answers("its neighbour", suntimpani_lookup(adjacent, 78, ADDRESS, 0x401020), neighbour);
+    compare_call("a last call without a neighbour", S, ADDRESS, 0x401020, 0, by_frame);
+    compare_call("a crash behind a function", S, ADDRESS, 0x401020, 1, none);
+    compare_call("a first byte without the mark", S, ADDRESS, 0x401040, 0, none);
+    compare_call("a first byte", S, ADDRESS, 0x401040, 1, by_entry);
+    compare_call("a first row without the mark", late, ADDRESS, 0x401004, 0, no_row);
+    compare_call("a first row", late, ADDRESS, 0x401004, 1, by_frame);
+    compare_call("a block without the mark", repeated, ADDRESS, 0x401010, 0, by_frame);
+    compare_call("a block", repeated, ADDRESS, 0x401010, 1, by_entry);
+    compare_call("PC 0", below, 0x1000, 0, 1, by_entry);
+    compare_call("PC 0 without the mark", below, 0x1000, 0, 0, none);
+    compare_call("PC 2^64 - 1", S, top, UINT64_MAX, 1, by_frame);
+    compare_call("PC 0 does not wrap", S, top, 0, 0, none);
+}
+
 /* AArch64, little-endian, one function of 16 bytes at 0x1000 with three rows: from 0 on SP + 0, from 4 on SP + 16, both
  * with RA in LR, and from 8 on FP + 32 with RA at CFA - 24 and FP at CFA - 32, signed. */
 static const uint8_t ON_AARCH64[59] = {
@@ -423,11 +474,11 @@ static const uint8_t ON_AARCH64[59] = {
 static void examples_on_aarch64(void) {
     const suntimpani_answer signed_row = {0, 0, 0, 1, 2, 8, 0, 32, 1, -24, 1, -32, 1};
     const suntimpani_answer leaf_row = {0, 0, 0, 1, 1, 4, 1, 16, 0, 0, 0, 0, 0};
-    const suntimpani_registers first = {0x401000, 0x7000, 0x7030, 0x401004, 1};
-    const suntimpani_registers later = {0x401000, 0x7000, 0x7030, 0x401004, 0};
-    const suntimpani_step caller = {{0x401004, 0x7000, 0x7030, 0x401004, 0}, 0, 0};
-    const suntimpani_step same_cfa = {{0x401000, 0x7000, 0x7030, 0x401004, 0}, 26, 0};
-    const suntimpani_step no_place = {{0x401004, 0x7000, 0x7030, 0x401004, 0}, 27, 0};
+    const suntimpani_registers first = {0x401000, 0x7000, 0x7030, 0x401005, 1};
+    const suntimpani_registers later = {0x401001, 0x7000, 0x7030, 0x401005, 0};
+    const suntimpani_step caller = {{0x401005, 0x7000, 0x7030, 0x401005, 0}, 0, 0};
+    const suntimpani_step same_cfa = {{0x401001, 0x7000, 0x7030, 0x401005, 0}, 26, 0};
+    const suntimpani_step no_place = {{0x401005, 0x7000, 0x7030, 0x401005, 0}, 27, 0};
     compare_answers("a signed row", suntimpani_lookup(ON_AARCH64, 59, ADDRESS, 0x40100f), signed_row);
     compare_answers("a leaf's row", suntimpani_lookup(ON_AARCH64, 59, ADDRESS, 0x401004), leaf_row);
     compare_steps("first, offset 0", suntimpani_caller(ON_AARCH64, 59, NULL, 0, LIES, first), caller);
@@ -475,6 +526,7 @@ int main(void) {
     rows_of_refused_sections();
     k10_to_k12();
     steps();
+    last_calls();
     examples_on_aarch64();
     null_pointers();
     printf("%lu comparisons, %lu differences\n", comparisons, differences);

@@ -18,6 +18,7 @@ mod far;
 mod forms;
 mod harmless;
 mod header;
+mod last_calls;
 mod limits;
 mod link_register;
 mod marks;
@@ -38,6 +39,7 @@ mod windows;
 pub use corpus::{corpus_section, CORPUS, CORPUS_VERDICTS};
 pub use document::S;
 pub use questions::Question;
+pub use recorded::LAST_CALL_RUNS;
 
 use crate::maker::{Function, Machine, Row, Section, SORTED};
 use crate::reader::{Header, Verdict};
@@ -126,6 +128,9 @@ pub fn all() -> Vec<Case> {
         chains::all(),
         recorded::all(),
         runs::all(),
+        last_calls::all(),
+        chains::returned(),
+        recorded::last_calls(),
     ];
     let mut cases: Vec<Case> = groups.into_iter().flatten().collect();
     ask_of_refused(&mut cases);

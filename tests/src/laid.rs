@@ -16,13 +16,12 @@ const BEGIN: u64 = 0x7fff_0000_0000;
 pub fn through(section: &[u8], frames: usize, seed: u64) -> Walk {
     let places = usable(section);
     let mut random = Random::new(seed);
-    let mut chain = Vec::from_iter((0..frames).map(|_| places[random.below(places.len() as u64) as usize]));
-    // Behind the last frame's function nothing is called: RA 0.
-    chain.push((0, chain[0].1));
+    let chain = Vec::from_iter((0..frames).map(|_| places[random.below(places.len() as u64) as usize]));
+    // A return address is one behind the PC that is looked up for it; behind the last frame's function there is none.
+    let returns = chain[1..].iter().map(|(pc, _)| pc + 1).chain([0]);
     let mut words = Vec::new();
-    for calls in chain.windows(2) {
-        let [(_, row), (ra, _)] = calls else { unreachable!("windows of two") };
-        words.extend(frame(row, *ra, BEGIN + 8 * words.len() as u64));
+    for ((_, row), ra) in chain.iter().zip(returns) {
+        words.extend(frame(row, ra, BEGIN + 8 * words.len() as u64));
     }
     let big = Header::read(section).is_some_and(|header| header.order == Order::Big);
     let stack = words.iter().flat_map(|word: &u64| if big { word.to_be_bytes() } else { word.to_le_bytes() }).collect();

@@ -47,12 +47,13 @@ pub fn at_the_limit(number: u64) -> Case {
     Case::new(name, section.bytes(), expected).asked(questions(expected)).walked(vec![walk(expected)])
 }
 
-// From the last function to the first, both at their first rows, CFA being SP + 8, and no farther; a refused section
-// refuses the step and the trace.
+// From the last function to the first, both at their first rows, CFA being SP + 8, and no farther: the return address
+// is one behind the first byte. A refused section refuses the step and the trace.
 fn walk(verdict: Verdict) -> (Walk, Walked) {
     let pc_of = |function: u64| ADDRESS.wrapping_add_signed(start_of(function as usize));
     let registers = Registers { pc: pc_of(LAST), sp: 0x7000, fp: 0x7777, lr: 0, first: 1 };
-    let stack = [pc_of(0), 0].map(u64::to_le_bytes).concat();
+    let ra = pc_of(0) + 1;
+    let stack = [ra, 0].map(u64::to_le_bytes).concat();
     let walk = Walk { lies: Where { section: ADDRESS, stack: 0x7000 }, registers, stack, limit: 0, words: 192 };
     let walked = match verdict {
         Verdict::Refused { number, index } => {
@@ -60,8 +61,8 @@ fn walk(verdict: Verdict) -> (Walk, Walked) {
             walk.stated(step, &[], Ending::Unsound { number, index })
         }
         Verdict::Accepted => {
-            let caller = Registers { pc: pc_of(0), sp: 0x7008, fp: 0x7777, lr: 0, first: 0 };
-            let frames = [[0x7008, pc_of(0), 0x7777], [0x7010, 0, 0x7777]];
+            let caller = Registers { pc: ra, sp: 0x7008, fp: 0x7777, lr: 0, first: 0 };
+            let frames = [[0x7008, ra, 0x7777], [0x7010, 0, 0x7777]];
             walk.stated(Step::Caller(caller), &frames, Ending::Outermost)
         }
     };

@@ -151,18 +151,31 @@ pub fn step(step: &Step) -> String {
             format!("caller:\nPC  {pc:016x}\nSP  {sp:016x}\nFP  {fp:016x}\nLR  {lr:016x}\n")
         }
         Step::Unsound { number, index, .. } => section_refused(number, index),
-        Step::Refused { number, .. } => format!("{}\n", refused(number)),
+        Step::Refused { old, number } => format!("{}\n{}", refused(number), looked_up(number, old.pc, old.first != 0)),
     }
 }
 
-/// What `trace` prints.
-pub fn trace(walked: &Walked) -> String {
+// What was looked up stands below 21, 22 and 23: PC itself with the mark, and the PC before it without.
+fn looked_up(number: u64, pc: u64, marked: bool) -> String {
+    match (number, pc) {
+        (21..=23, _) if marked => format!("looked up: {pc:016x}\n"),
+        (21, 0) => "looked up: nothing, since PC is 0 without the first-frame mark\n".to_string(),
+        (21..=23, _) => format!("looked up: {:016x}\n", pc - 1),
+        _ => String::new(),
+    }
+}
+
+/// What `trace` prints that began at this PC.
+pub fn trace(pc: u64, walked: &Walked) -> String {
     match walked.traced.ending {
         Ending::Unsound { number, index } => section_refused(number, index),
         Ending::Refused(number @ 41..=43) => format!("{}\n", refused(number)),
         ending => {
             let (frames, number) = (walked.traced.frames, ending.number());
-            format!("{}frames: {frames}\nended: {number}, {}\n", frames_of(walked), words(number))
+            let ended = format!("{}frames: {frames}\nended: {number}, {}\n", frames_of(walked), words(number));
+            let sought =
+                walked.frames().last().map_or(looked_up(number, pc, true), |[_, ra, _]| looked_up(number, *ra, false));
+            ended + &sought
         }
     }
 }
@@ -286,9 +299,9 @@ mod tests {
         let second = "    1  0000000000007040  0000000000000000  0000000000000000\n";
         let head = "frame  CFA               RA                FP\n";
         let ended = "frames: 2\nended: 30, RA is 0: the outermost frame\n";
-        assert_eq!(trace(k10), format!("{head}{first}{second}{ended}"));
+        assert_eq!(trace(0x40_1044, k10), format!("{head}{first}{second}{ended}"));
         let ended = "frames: 1\nended: 28, a needed word is not wholly inside the stack window\n";
-        assert_eq!(trace(k12), format!("{head}{first}{ended}"));
+        assert_eq!(trace(0x40_1044, k12), format!("{head}{first}{ended}"));
     }
 
     #[test]
@@ -308,11 +321,30 @@ mod tests {
     fn a_trace_without_frames_has_no_head() {
         let walk = &all()[0].walks[0].0;
         let old = walk.registers;
-        let told = |ending| trace(&walk.stated(Step::Refused { old, number: 21 }, &[], ending));
-        assert_eq!(told(Ending::Refused(21)), "frames: 0\nended: 21, no function covers the PC\n");
+        let told = |ending| trace(old.pc, &walk.stated(Step::Refused { old, number: 21 }, &[], ending));
+        let none = "frames: 0\nended: 21, no function covers the PC\nlooked up: 0000000000401044\n";
+        assert_eq!(told(Ending::Refused(21)), none);
         assert_eq!(told(Ending::Refused(42)), "refused: 42, the limit is above 256\n");
         let unsound = "refused: 10, an entry has repeated blocks of size 0, in function 4\n";
         assert_eq!(told(Ending::Unsound { number: 10, index: 4 }), unsound);
         assert_eq!(step(&Step::Refused { old, number: 24 }), "refused: 24, the return address is signed\n");
+    }
+
+    // The PC of the registers is another than the one that was looked up where they have no mark.
+    #[test]
+    fn what_was_looked_up_is_told_with_21_to_23() {
+        let (walk, walked) = &all()[0].walks[1];
+        let old = walk.registers;
+        let refused = |number, pc, first| step(&Step::Refused { old: Registers { pc, first, ..old }, number });
+        let two = "refused: 22, two or more functions cover the PC\nlooked up: 0000000000401020\n";
+        assert_eq!(refused(22, 0x40_1021, 0), two);
+        assert_eq!(refused(22, 0x40_1020, 7), two);
+        let none = "refused: 21, no function covers the PC\nlooked up: ";
+        assert_eq!(refused(21, 0, 1), format!("{none}0000000000000000\n"));
+        assert_eq!(refused(21, 0, 0), format!("{none}nothing, since PC is 0 without the first-frame mark\n"));
+        let frames = [[0x7008, 0x40_1008, 0x7030]];
+        let told = trace(old.pc, &walk.stated(walked.step, &frames, Ending::Refused(23)));
+        let ended = "ended: 23, no row of the function starts at or below the PC\nlooked up: 0000000000401007\n";
+        assert!(told.ends_with(ended), "{told}");
     }
 }

@@ -2,7 +2,7 @@
 
 use std::collections::BTreeSet;
 use std::fs;
-use suntimpani_tests::cases::{corpus_section, CORPUS_VERDICTS};
+use suntimpani_tests::cases::{corpus_section, CORPUS_VERDICTS, LAST_CALL_RUNS};
 use suntimpani_tests::dump::Dump;
 use suntimpani_tests::in_repository;
 use suntimpani_tests::reader::{check, functions, lookup, Block, Header, Outcome, Verdict};
@@ -142,4 +142,16 @@ fn the_recorded_section_is_as_shown() {
     let found = functions(&corpus_section(recorded));
     assert_eq!(found.len(), 17);
     dump.compare(recorded, &found);
+}
+
+// The sections of the programs whose functions end in calls: vectors/last_calls.
+#[test]
+fn the_sections_with_last_calls_are_as_shown() {
+    for (machine, _) in LAST_CALL_RUNS {
+        let name = format!("../../last_calls/{machine}");
+        let dump = Dump::of(&name).expect("a dump");
+        let found = functions(&corpus_section(&name));
+        assert_eq!(found.len(), 8);
+        dump.compare(&name, &found);
+    }
 }

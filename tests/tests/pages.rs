@@ -288,7 +288,7 @@ fn number_faults(specification: &str, refusals: &str) -> Vec<String> {
     let mut faults = [twice(&listed, "the table"), twice(&refused, "REFUSALS")].concat();
     for Row { number, rule, .. } in &table {
         let at: Vec<&str> = given.iter().filter(|(other, _)| other == number).map(|(_, at)| at.as_str()).collect();
-        if at != [rule] {
+        if at != rule.split(", ").collect::<Vec<_>>() {
             faults.push(format!("{number}: the table says {rule}, and it stands at [{}]", at.join(", ")));
         }
         if !refused.contains(number) {

@@ -48,7 +48,7 @@ fn walk(folder: &Folder, section: &[u8], walk: &Walk) {
     let (first, limit) = (given(from.first), counted(walk.limit));
     let arguments = |command, last| [command, "section", &address, "stack", &stack_address, pc, sp, fp, lr, last];
     folder.answers(&arguments("caller", &first), &words::step(&walked.step));
-    folder.answers(&arguments("trace", &limit), &words::trace(&walked));
+    folder.answers(&arguments("trace", &limit), &words::trace(walk.registers.pc, &walked));
 }
 
 #[test]

@@ -27,7 +27,7 @@ struct Passed {
     first: u8,
 }
 
-const SLIPS: [(&str, Slip); 43] = [
+const SLIPS: [(&str, Slip); 45] = [
     ("the later of the covering entries wins", |a| a.by_one(|covering| covering[covering.len() - 1])),
     ("the first of the covering entries wins", |a| a.by_one(|covering| covering[0])),
     ("the two highest indexes are told", |a| a.by_two(|all| (all[all.len() - 2], all[all.len() - 1]))),
@@ -37,6 +37,8 @@ const SLIPS: [(&str, Slip); 43] = [
     ("the distance is of 64 bits", |a| a.at(a.pc.wrapping_sub(a.address) as i64)),
     ("the distance is of 32 bits", |a| a.at((a.pc.wrapping_sub(a.address) as i32).into())),
     ("the distance is never negative", |a| a.at(a.pc.wrapping_sub(a.address).min(1 << 62) as i64)),
+    ("PC - 1 is looked up", |a| a.at_pc(a.pc.saturating_sub(1))),
+    ("PC - 1 is looked up, and PC 0 wraps", |a| a.at_pc(a.pc.wrapping_sub(1))),
     ("start fields are the starts under flag 0x4", |a| a.with(|a, f, index| f.start -= a.position(index))),
     ("fields stand right behind the header", |a| a.with(|a, f, index| f.start -= a.position(index).min(a.auxiliary()))),
     ("starts count from the first field", |a| a.with(|a, f, index| f.start += a.position(0) - a.position(index))),
@@ -154,6 +156,11 @@ impl Asked<'_> {
         let mut edited = self.functions.to_vec();
         edited.iter_mut().enumerate().for_each(|(index, function)| edit(self, function, index));
         self.answer(&edited)
+    }
+
+    // The answer at another PC.
+    fn at_pc(&self, pc: u64) -> Answer {
+        obvious::answer(self.sorted(), self.functions, self.address, pc)
     }
 
     // The answer at another distance.

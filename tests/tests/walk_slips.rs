@@ -8,7 +8,9 @@
 
 use suntimpani_tests::cases;
 use suntimpani_tests::obvious::{self, Meaning};
-use suntimpani_tests::reader::{functions, Base, Ending, Outcome, Place, Registers, Row, Step, Traced, Verdict};
+use suntimpani_tests::reader::{
+    functions, Base, Ending, Function, Outcome, Place, Registers, Row, Step, Traced, Verdict,
+};
 use suntimpani_tests::walk::{lent, Walk, Walked};
 
 const TWO_64: i128 = 1 << 64;
@@ -30,13 +32,16 @@ struct Found {
 
 #[derive(Clone, Copy)]
 struct Ways {
-    /// In which order the rules stand: before a step, in it, and before a trace. 1 stands for 1 to 15.
+    /// In which order the rules stand: before a step, in it, and before a trace. 1 stands for 1 to 15, and 21 before a
+    /// step for PC 0 without the mark.
     before_step: &'static [u64],
     in_step: &'static [u64],
     before_trace: &'static [u64],
     past_the_end: fn(u64, usize) -> bool,
-    looked_up: fn(&Registers) -> u64,
     has_mark: fn(u64) -> bool,
+    /// What is looked up by PC and whether there is a mark, if anything is; and the PC that a row's offset counts to.
+    looked_up: fn(u64, bool) -> Option<u64>,
+    offset_from: fn(u64, u64) -> u64,
     is_signed: fn(&Scene, &Found) -> bool,
     cfa: fn(u64, i64) -> i128,
     is_outside: fn(i128) -> bool,
@@ -68,12 +73,13 @@ struct Ways {
 }
 
 const RIGHT: Ways = Ways {
-    before_step: &[41, 1],
+    before_step: &[41, 1, 21],
     in_step: &[24, 25, 26, 27, 28],
     before_trace: &[41, 42, 43, 1],
     past_the_end: |address, length| i128::from(address) + length as i128 > TWO_64,
-    looked_up: |registers| registers.pc,
     has_mark: |first| first != 0,
+    looked_up: |pc, marked| if marked { Some(pc) } else { pc.checked_sub(1) },
+    offset_from: |_, looked_up| looked_up,
     is_signed: |_, found| found.row.signed,
     cfa: |base, offset| i128::from(base) + i128::from(offset),
     is_outside: |cfa| !(0..TWO_64).contains(&cfa),
@@ -105,7 +111,7 @@ fn wholly_inside(place: i128, length: usize) -> Option<i128> {
     (0 <= place && place + 8 <= length as i128).then_some(place)
 }
 
-static SLIPS: [(&str, Ways); 86] = [
+static SLIPS: [(&str, Ways); 99] = [
     // RA.
     ("LR is trusted in later frames", Ways { trusts_lr: |_| true, ..RIGHT }),
     ("LR is not trusted in the first frame", Ways { trusts_lr: |_| false, ..RIGHT }),
@@ -181,11 +187,34 @@ static SLIPS: [(&str, Ways); 86] = [
     ("27 comes before 26", Ways { in_step: &[24, 25, 27, 26, 28], ..RIGHT }),
     ("27 comes before 25", Ways { in_step: &[24, 27, 25, 26, 28], ..RIGHT }),
     ("28 comes before 26", Ways { in_step: &[24, 25, 28, 26, 27], ..RIGHT }),
-    ("the section comes before 41 in a step", Ways { before_step: &[1, 41], ..RIGHT }),
-    ("PC - 1 is looked up", Ways { looked_up: |registers| registers.pc.wrapping_sub(1), ..RIGHT }),
+    ("the section comes before 41 in a step", Ways { before_step: &[1, 41, 21], ..RIGHT }),
+    // The PC asked.
+    ("PC itself is looked up without the mark", Ways { looked_up: |pc, _| Some(pc), ..RIGHT }),
     (
-        "PC - 1 is looked up in later frames",
-        Ways { looked_up: |r| r.pc.wrapping_sub(u64::from(r.first == 0)), ..RIGHT },
+        "PC itself is looked up without the mark, but 0",
+        Ways { looked_up: |pc, m| (m || pc > 0).then_some(pc), ..RIGHT },
+    ),
+    ("PC - 1 is looked up with the mark too", Ways { looked_up: |pc, _| pc.checked_sub(1), ..RIGHT }),
+    ("PC - 1 is looked up with the mark alone", Ways { looked_up: |pc, m| (RIGHT.looked_up)(pc, !m), ..RIGHT }),
+    ("PC - 1 wraps", Ways { looked_up: |pc, m| Some(pc.wrapping_sub(u64::from(!m))), ..RIGHT }),
+    ("PC - 1 is 0 for PC 0", Ways { looked_up: |pc, m| Some(pc.saturating_sub(u64::from(!m))), ..RIGHT }),
+    ("PC 0 is never looked up", Ways { looked_up: |pc, m| (RIGHT.looked_up)(pc, m).filter(|_| pc > 0), ..RIGHT }),
+    (
+        "PC 1 is not looked up without the mark",
+        Ways { looked_up: |pc, m| (m || pc > 1).then(|| pc - u64::from(!m)), ..RIGHT },
+    ),
+    (
+        "PC - 4 is looked up without the mark",
+        Ways { looked_up: |pc, m| if m { Some(pc) } else { pc.checked_sub(4) }, ..RIGHT },
+    ),
+    ("the offset in the function is that of PC", Ways { offset_from: |pc, _| pc, ..RIGHT }),
+    ("PC 0 without the mark comes before the section", Ways { before_step: &[41, 21, 1], ..RIGHT }),
+    ("PC 0 without the mark comes before 41", Ways { before_step: &[21, 41, 1], ..RIGHT }),
+    ("RA - 1 is handed back", Ways { handed_back: |_, c| Registers { pc: c.pc.wrapping_sub(1), ..c }, ..RIGHT }),
+    ("RA - 1 is written", Ways { frame: |c| vec![c.sp, c.pc.wrapping_sub(1), c.fp], ..RIGHT }),
+    (
+        "RA 1 ends a trace",
+        Ways { ending: |c, full| (RIGHT.ending)(&Registers { pc: c.pc.saturating_sub(1), ..*c }, full), ..RIGHT },
     ),
     // FP.
     ("FP is never read", Ways { fp: |_, _| Place::Register, ..RIGHT }),
@@ -311,6 +340,7 @@ impl Ways {
                 (1, Verdict::Refused { number, index }) => {
                     return Step::Unsound { old: (self.old)(old, 0), number, index: (self.index)(index) }
                 }
+                (21, _) if self.asked(&old).is_none() => return Step::Refused { old: (self.old)(old, 0), number: 21 },
                 _ => {}
             }
         }
@@ -324,10 +354,16 @@ impl Ways {
         (self.past_the_end)(scene.walk.lies.stack, scene.walk.stack.len())
     }
 
+    fn asked(&self, registers: &Registers) -> Option<u64> {
+        (self.looked_up)(registers.pc, (self.has_mark)(registers.first))
+    }
+
     // The caller, or a refusal's number and CFA as far as it was worked out.
     fn caller(&self, scene: &Scene, old: Registers) -> Result<Registers, (u64, i128)> {
-        let found = scene.find((self.looked_up)(&old)).map_err(|number| (number, 0))?;
         let marked = (self.has_mark)(old.first);
+        let looked_up = self.asked(&old).ok_or((21, 0))?;
+        let offset_from = (self.offset_from)(old.pc, looked_up);
+        let found = scene.find(looked_up, offset_from).map_err(|number| (number, 0))?;
         let base = if found.row.base == Base::Sp { old.sp } else { old.fp };
         let cfa = (self.cfa)(base, found.row.cfa_offset);
         let ra_place = (self.ra)(scene, &found, marked);
@@ -400,18 +436,27 @@ impl Ways {
 }
 
 impl Scene<'_> {
-    fn find(&self, pc: u64) -> Result<Found, u64> {
-        let row = row_for(self.meaning, self.walk.lies.section, pc)?;
-        let on_aarch64 = match self.as_aarch64 {
-            Some(other) => row_for(other, self.walk.lies.section, pc)?,
-            None => row,
-        };
+    fn find(&self, pc: u64, offset_from: u64) -> Result<Found, u64> {
+        let find = |meaning| row_for(meaning, self.walk.lies.section, pc, offset_from);
+        let row = find(self.meaning)?;
+        let on_aarch64 = self.as_aarch64.map_or(Ok(row), find)?;
         Ok(Found { row, on_aarch64 })
     }
 }
 
-fn row_for(meaning: &Meaning, address: u64, pc: u64) -> Result<Row, u64> {
-    let answer = obvious::answer(meaning.sorted, &meaning.functions, address, pc);
+// The row in the function that covers one PC for the place of another.
+fn row_for(meaning: &Meaning, address: u64, pc: u64, offset_from: u64) -> Result<Row, u64> {
+    let answer =
+        |functions: &[Function], address: u64, pc: u64| obvious::answer(meaning.sorted, functions, address, pc);
+    let covering = answer(&meaning.functions, address, pc);
+    let function = match covering.outcome {
+        Outcome::Found { row, .. } if pc == offset_from => return Ok(row),
+        Outcome::Found { function, .. } | Outcome::NoRow { function } => function as usize,
+        _ => return Err(covering.refusal()),
+    };
+    // The function by itself, as long as any can be.
+    let alone = Function { size: u32::MAX, ..meaning.functions[function].clone() };
+    let answer = answer(&[alone], address, offset_from);
     match answer.outcome {
         Outcome::Found { row, .. } => Ok(row),
         _ => Err(answer.refusal()),

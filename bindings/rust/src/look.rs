@@ -78,7 +78,8 @@ pub enum Place {
     AtOffset(i64),
 }
 
-/// The function and the row for a PC, in a section whose first byte lies at an address.
+/// The function and the row for a PC, in a section whose first byte lies at an address. The PC is looked up as it is:
+/// ask for a return address minus 1, as a step does, where the function that called is meant.
 ///
 /// ```
 /// use suntimpani::example::SECTION_S;

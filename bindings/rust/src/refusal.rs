@@ -41,11 +41,11 @@ pub enum Rule {
 /// Why a step or a trace is refused on a sound section, or before it is looked at. Its number is 21 to 28 or 41 to 43.
 #[derive(Clone, Copy, Debug, PartialEq, Eq, PartialOrd, Ord, Hash)]
 pub enum Refusal {
-    /// No function covers the PC.
+    /// No function covers the PC that is looked up; or there is none, since PC is 0 without the first-frame mark.
     NoFunction = 21,
-    /// Two or more functions cover the PC.
+    /// Two or more functions cover the PC that is looked up.
     Dispute = 22,
-    /// No row of the function starts at or below the PC.
+    /// No row of the function starts at or below the PC that is looked up.
     NoRow = 23,
     /// The return address is signed (AArch64).
     Signed = 24,

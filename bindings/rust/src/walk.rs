@@ -76,14 +76,17 @@ pub enum Ending {
 pub struct Frame {
     /// The canonical frame address: SP of the caller.
     pub cfa: u64,
-    /// The return address: PC of the caller.
+    /// The return address as it was read: PC of the caller. It may be the first byte behind the function that called:
+    /// [`lookup`](crate::lookup) finds that function at the return address minus 1, as the walk does.
     pub ra: u64,
     /// FP of the caller.
     pub fp: u64,
 }
 
 impl Registers {
-    /// The caller's registers, or the same registers with a refusal.
+    /// The caller's registers, or the same registers with a refusal. PC itself is looked up with the mark, and PC - 1
+    /// without it: a return address stands behind its call, and where the call is the last instruction of its
+    /// function, behind the function.
     ///
     /// ```
     /// use suntimpani::example::SECTION_S;
@@ -96,6 +99,15 @@ impl Registers {
     /// assert_eq!((caller.pc, caller.sp, caller.fp), (0x40_1008, 0x7008, 0x7030));
     /// // The next frame's words lie above these eight bytes.
     /// assert_eq!(caller.step(&SECTION_S, &stack, lies).number(), 28);
+    ///
+    /// // The first function of the section ends in a call: the return address is the first byte behind it, and the
+    /// // caller's FP and return address lie where its own FP points to.
+    /// let behind = Registers { pc: 0x40_1020, sp: 0x7000, fp: 0x7000, lr: 0, first: false };
+    /// let stack = [0x7038_u64, 0x40_1044].map(u64::to_le_bytes);
+    /// let Step::Caller(caller) = behind.step(&SECTION_S, stack.as_flattened(), lies) else { panic!("a caller") };
+    /// assert_eq!((caller.pc, caller.sp, caller.fp), (0x40_1044, 0x7010, 0x7038));
+    /// // A crash there would be in no function.
+    /// assert_eq!(Registers { first: true, ..behind }.step(&SECTION_S, stack.as_flattened(), lies).number(), 21);
     /// ```
     pub fn step(self, section: &[u8], stack: &[u8], lies: Where) -> Step {
         let said = calls::caller(section, stack, lies.flat(), self.flat());

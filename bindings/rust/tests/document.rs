@@ -109,6 +109,26 @@ fn steps() {
     assert_eq!(CRASH.step(&overlapping(1), &stack(), LIES), Step::Unsound { old: CRASH, unsound });
 }
 
+#[test]
+fn last_calls() {
+    let mut adjacent = S;
+    adjacent[48] = 0x20;
+    let stack = [0x7038_u64, 0x40_1044].map(u64::to_le_bytes);
+    let step = |section: &[u8], pc, first| {
+        let registers = Registers { pc, fp: 0x7000, first, ..CRASH };
+        (registers, registers.step(section, stack.as_flattened(), LIES))
+    };
+    let caller = |pc, sp, fp| Step::Caller(Registers { pc, sp, fp, first: false, ..CRASH });
+    // The function that ends in the call, and its neighbour.
+    assert_eq!(step(&adjacent, 0x40_1020, false).1, caller(0x40_1044, 0x7010, 0x7038));
+    assert_eq!(step(&adjacent, 0x40_1020, true).1, caller(0x7038, 0x7008, 0x7000));
+    // Nobody stands before the second function, and before PC 0 there is nothing.
+    for pc in [0x40_1040, 0] {
+        let (old, refused) = step(&S, pc, false);
+        assert_eq!(refused, Step::Refused { old, refusal: Refusal::NoFunction });
+    }
+}
+
 /// AArch64, little-endian, one function of 16 bytes at 0x1000 with three rows: from 0 on SP + 0, from 4 on SP + 16,
 /// both with RA in LR, and from 8 on FP + 32 with RA at CFA - 24 and FP at CFA - 32, signed.
 #[rustfmt::skip]
@@ -120,11 +140,12 @@ const ON_AARCH64: [u8; 59] = [
     0x00, 0x03, 0x00, 0x04, 0x03, 0x10, 0x08, 0x86, 0x20, 0xe8, 0xe0,
 ];
 
+// "AArch64, first frame, SP base, offset 0: CFA = SP, RA = LR. The same row later: 26. With offset 16 later: 27."
 #[test]
 fn examples_on_aarch64() {
-    let first = Registers { pc: 0x40_1000, lr: 0x40_1004, ..CRASH };
-    let later = Registers { first: false, ..first };
-    let caller = Registers { pc: 0x40_1004, ..later };
+    let first = Registers { pc: 0x40_1000, lr: 0x40_1005, ..CRASH };
+    let later = Registers { pc: 0x40_1001, first: false, ..first };
+    let caller = Registers { pc: 0x40_1005, ..later };
     let refused = |old, refusal| Step::Refused { old, refusal };
     assert_eq!(first.step(&ON_AARCH64, &[], LIES), Step::Caller(caller));
     assert_eq!(later.step(&ON_AARCH64, &[], LIES), refused(later, Refusal::CfaLow));

@@ -26,7 +26,7 @@ use Rattle.lookup.specs.computed.Answers.{lookupOf, lookIn}
 use Rattle.lookup.specs.declared.answer.Outcome.the-variants.{Found}
 use Rattle.lookup.proofs.CoveringLaws.{is-true}
 use Rattle.lookup.proofs.Exactly as lookup
-use Rattle.caller.specs.Cases.{Rule41, WindowFits, NoMark, Aarch64, Rule24, Rule25, Rule26, Rule27, Rule28, LookedUp, RowFound, CfaAt, WordsAt, OnRefusal, OnStep, CallerCase, Case}
+use Rattle.caller.specs.Cases.{Rule41, WindowFits, NoMark, Aarch64, Rule24, Rule25, Rule26, Rule27, Rule28, LookedUp, NothingAsked, RowFound, CfaAt, WordsAt, OnRefusal, OnStep, CallerCase, Case}
 use Rattle.caller.specs.Frame.{askedOf, callerSp, cfaOfSp}
 use Rattle.caller.specs.InBytes.{SignedInBytes, CallerInBytes}
 use Rattle.caller.specs.Numbers.{Refusal, unfound, signed, cfaOutside, cfaLow, raLost, wordOutside, numberOfRefusal, StepCause, window, unsound, refused, numberOfStepCause, stepNumber, stepIndexes, stepRegisters}
@@ -128,8 +128,8 @@ module _ (s stack : List ℕ) (lies : Where) (registers : Registers) where
         record { fits = fits; obeys = obeys; pc = pc; asked = asked; holds = (i, k, found) },
   )
 
-  -- "21, 22, 23."
-  pub number-21-exactly-when : (stepNumber answer ≡ 21) ↔ LookedUp s stack lies registers (NoneCovers s)
+  -- "21, 22, 23.": no function covers the PC asked, or "PC 0 without the mark", and there is none to ask
+  pub number-21-exactly-when : (stepNumber answer ≡ 21) ↔ (LookedUp s stack lies registers (NoneCovers s) ⊎ NothingAsked s stack lies registers)
   unfolding numberOfStepCause numberOfRefusal numberOfUnfound
   number-21-exactly-when = number-exactly-when (refused (unfound noFunction))
 

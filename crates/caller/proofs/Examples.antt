@@ -18,19 +18,24 @@ use Rattle.numbers.specs.declared.address.Word.the-variants as word
 use Rattle.numbers.specs.declared.field.Order.{Order}
 use Rattle.numbers.specs.declared.field.Order.the-variants.{Little, Big}
 use Rattle.section.specs.SectionS.{sectionS, overlappingS, unsortedS}
+use Rattle.section.specs.Meaning.{shapeOf}
 use Rattle.section.specs.Shape.{aarch64Shape, amd64Shape}
 use Rattle.section.specs.declared.row.Base.the-variants.{Fp, Sp}
 use Rattle.section.specs.declared.row.Place.the-variants.{Register, AtOffset}
 use Rattle.section.specs.declared.row.Row.{Row}
 use Rattle.section.specs.declared.shape.Shape.{Shape}
-use Rattle.caller.specs.Frame.{cfaOf, callerSp}
+use Rattle.lookup.specs.Finding.{Finding}
+use Rattle.lookup.specs.computed.Answers.{lookIn}
+use Rattle.caller.specs.Frame.{justBefore, askedOf, cfaOf, callerSp}
 use Rattle.caller.specs.Numbers.{stepNumber, stepRegisters}
-use Rattle.caller.specs.computed.Caller.{isSigned, isLow, spotOf, isLost, valueOf, bothOf, valuesOf, withValues, fromSpots, fromCfa, withCfa, fromRow, stepIn, unlessLost, unlessLow, unlessSigned, fromCfa}
+use Rattle.caller.specs.computed.Caller.{isSigned, isLow, spotOf, isLost, valueOf, bothOf, valuesOf, withValues, fromSpots, fromCfa, withCfa, fromRow, fromFinding, lookAt, stepOf, stepIn, unlessLost, unlessLow, unlessSigned}
 use Rattle.caller.specs.inner.Opened.{callerOpened}
 use Rattle.caller.specs.declared.place.Spot.{Spot}
 use Rattle.caller.specs.declared.place.Spot.the-variants.{Kept, Saved, Beyond}
 use Rattle.caller.specs.declared.place.Values.{Values}
 use Rattle.caller.specs.declared.place.Values.the-variants.{Both, NoRa, NoFp}
+use Rattle.caller.specs.declared.registers.Asked.{Asked}
+use Rattle.caller.specs.declared.registers.Asked.the-variants.{At}
 use Rattle.caller.specs.declared.registers.Registers.{Registers}
 use Rattle.caller.specs.declared.registers.Step.{Step}
 use Rattle.caller.specs.declared.registers.Step.the-variants.{Caller, Unsound, Refused}
@@ -287,6 +292,64 @@ loose-differs : (order : Order)
     (bothOf (valueOf (take 63 stack) 0x7000 order 0 (Saved 0x7038)) (valueOf (take 63 stack) 0x7000 order 0x7030 (Saved 0x7030))))
 unfolding callerOpened stack second valueBy loose
 loose-differs order e = let z : _≡_ {A = ℕ} 0 28 = ap stepNumber e in omega arith
+
+-- ---- "The last call of a function is blamed on its neighbour.": the PC asked by another rule
+
+-- the step by what is asked, and ours
+stepBy : (Registers → Asked) → Shape → (ℕ → Finding) → List ℕ → Where → Registers → Step
+stepBy asked shape look stack lies registers = fromFinding shape stack lies registers (lookAt look (asked registers))
+
+our-asked : (shape : Shape) (look : ℕ → Finding) (stack : List ℕ) (lies : Where) (registers : Registers)
+    → stepOf shape look stack lies registers ≡ stepBy askedOf shape look stack lies registers
+unfolding stepOf stepBy
+our-asked shape look stack lies registers = refl
+
+-- by S loaded here
+numberBy : (Registers → Asked) → Where → Registers → ℕ
+numberBy asked lies registers = stepNumber (stepBy asked (shapeOf sectionS) (lookIn sectionS (lies .section)) stack lies registers)
+
+-- document 01's: PC itself, with the mark and without. Just behind S's first function there is then none
+itself : Registers → Asked
+itself registers = At (registers .pc)
+
+behind : Registers
+behind = record { pc = 0x401020; sp = 0x7000; fp = 0x7030; lr = 0; first = 0 }
+
+itself-differs : ¬ (numberBy itself loaded behind ≡ numberBy askedOf loaded behind)
+unfolding callerOpened sectionS stack loaded behind stepBy numberBy itself
+itself-differs e = let z : _≡_ {A = ℕ} 21 0 = e in omega arith
+
+-- PC minus 1, with the mark and without. At the first byte of S's second function there is then none
+alwaysBefore : Registers → Asked
+alwaysBefore registers = justBefore (registers .pc)
+
+always-differs : ¬ (numberBy alwaysBefore loaded (at-pc 0x401040) ≡ numberBy askedOf loaded (at-pc 0x401040))
+unfolding callerOpened sectionS stack loaded at-pc stepBy numberBy alwaysBefore
+always-differs e = let z : _≡_ {A = ℕ} 21 0 = e in omega arith
+
+-- PC minus 1 wrapped to 64 bits, with S loaded so that its first function ends at 2^64
+wrapping : Registers → Asked
+wrapping registers = At ((registers .pc + (2 ^ 64 - 1)) % 2 ^ 64)
+
+atZero : Registers
+atZero = record { pc = 0; sp = 0x7000; fp = 0x7030; lr = 0; first = 0 }
+
+atTheTop : Where
+atTheTop = record { section = 2 ^ 64 - 0x1020; stack = 0x7000 }
+
+wrapping-differs : ¬ (numberBy wrapping atTheTop atZero ≡ numberBy askedOf atTheTop atZero)
+unfolding callerOpened sectionS stack atTheTop atZero stepBy numberBy wrapping
+wrapping-differs e = let z : _≡_ {A = ℕ} 0 21 = e in omega arith
+
+-- RA minus 1 written: "The RA written stays as read."
+lowering : Registers → ℕ → Values → Step
+lowering registers cfa NoRa = Refused registers 28
+lowering registers cfa NoFp = Refused registers 28
+lowering registers cfa (Both ra fp) = Caller (record { pc = ra - 1; sp = callerSp cfa; fp = fp; lr = registers .lr; first = 0 })
+
+lowering-differs : ¬ (lowering (leaf 1) 0x7000 (Both 0x401008 0x7030) ≡ withValues (leaf 1) 0x7000 (Both 0x401008 0x7030))
+unfolding callerOpened leaf lowering
+lowering-differs e = let z : _≡_ {A = ℕ} 0x401007 0x401008 = ap (λ o. stepRegisters o .pc) e in omega arith
 
 -- ---- a step that answers the same of all registers, already in S
 

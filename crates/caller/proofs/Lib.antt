@@ -1,3 +1,4 @@
+pub mod Asked
 pub mod Exactly
 mod Examples
 pub mod FindingLaws

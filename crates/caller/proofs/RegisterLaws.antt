@@ -1,18 +1,19 @@
--- The registers as the code reads them: the mark by its number, the test of 26 by one comparison with the mark and one without,
--- and CFA by its base.
+-- The registers as the code reads them: the mark by its number, the PC asked, the test of 26 by one comparison with the mark and one
+-- without, and CFA by its base.
 -- Assumes nothing.
 use borrow.Author.Tests.{ltb-true, ltb-false, eqb-true, eqb-false, le-leb, lt-leb, eq-eqb, ne-eqb}
 use native.Mathlib.Omega.{arith}
 use mathlib.Core.Bool.{Bool, true, false, not, _&&_, _||_}
 use mathlib.Core.Path.{_≡_, refl, _∙_, ap}
-use Prim.Native.Nat.{ℕ, _<_, _≤_}
+use Prim.Native.Nat.{ℕ, zero, suc, _-_, _<_, _≤_}
 use lib.Dec.{eqb, ltb, leb}
 use Rattle.numbers.specs.computed.Address.{inMemory, addressOf}
 use Rattle.numbers.specs.declared.address.Address.{Address}
 use Rattle.section.specs.declared.row.Row.{Row}
 use Rattle.lookup.proofs.CoveringLaws.{by-value}
-use Rattle.caller.specs.Frame.{baseValue, cfaOf}
-use Rattle.caller.specs.computed.Caller.{hasMark, isLow}
+use Rattle.caller.specs.Frame.{hasMark, justBefore, askedOf, baseValue, cfaOf}
+use Rattle.caller.specs.computed.Caller.{isLow}
+use Rattle.caller.specs.declared.registers.Asked.the-variants.{At, Nowhere}
 use Rattle.caller.specs.declared.registers.Registers.{Registers}
 
 pub twice-not : (test : Bool) → test ≡ not (not test)
@@ -49,6 +50,27 @@ module _ (registers : Registers) (sp : ℕ) where
   pub low-marked : ¬ (registers .first ≡ 0) → ltb sp (registers .sp) ≡ isLow registers sp
   unfolding isLow hasMark
   low-marked set = rw (ne-eqb _ _ set) (or-none (ltb sp (registers .sp)) (eqb sp (registers .sp)))
+
+-- ---- the PC asked
+
+pub none-before : (pc : ℕ) → pc ≡ 0 → Nowhere ≡ justBefore pc
+unfolding justBefore
+none-before zero e = refl
+none-before (suc pc) e = absurd (omega arith)
+
+pub one-before : (pc : ℕ) → ¬ (pc ≡ 0) → At (pc - 1) ≡ justBefore pc
+unfolding justBefore
+one-before zero e = absurd (e refl)
+one-before (suc pc) e = ap At (omega arith)
+
+module _ (registers : Registers) where
+  pub asked-unmarked : registers .first ≡ 0 → justBefore (registers .pc) ≡ askedOf registers
+  unfolding askedOf hasMark
+  asked-unmarked none = rw (eq-eqb _ _ none, askedOf)
+
+  pub asked-marked : ¬ (registers .first ≡ 0) → At (registers .pc) ≡ askedOf registers
+  unfolding askedOf hasMark
+  asked-marked set = rw (ne-eqb _ _ set, askedOf)
 
 -- CFA, by the value of the base and the sum
 pub cfa-is : (registers : Registers) (row : Row) {base : ℕ} {sum : Address} → base ≡ baseValue registers (row .base)

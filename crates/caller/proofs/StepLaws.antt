@@ -19,10 +19,10 @@ use Rattle.accept.proofs.Decides.{Shows}
 use Rattle.accept.proofs.Exactly.{accepted-exactly-when, given-exactly-when, obeys-or-refusal}
 use Rattle.lookup.specs.Cases.{UnfoundCase}
 use Rattle.lookup.specs.Finding.{Finding}
-use Rattle.lookup.specs.Numbers.{Unfound, numberOfUnfound}
+use Rattle.lookup.specs.Numbers.{Unfound, noFunction, dispute, noRow, numberOfUnfound}
 use Rattle.lookup.specs.computed.Answers.{lookIn}
 use Rattle.lookup.proofs.CoveringLaws.{by-value, is-true, is-false}
-use Rattle.caller.specs.Cases.{Rule24, Rule25, Rule26, Rule27, Rule41, WindowFits, Outside, LookedUp, RowFound, CfaAt, WordsAt, OnRefusal, CallerCase, UnsoundCase, RefusedCase, Case}
+use Rattle.caller.specs.Cases.{Rule24, Rule25, Rule26, Rule27, Rule41, WindowFits, Outside, LookedUp, NothingAsked, RowFound, CfaAt, WordsAt, OnRefusal, CallerCase, UnsoundCase, RefusedCase, Case}
 use Rattle.caller.specs.Frame.{askedOf, cfaOf, callerSp}
 use Rattle.caller.specs.Numbers.{Refusal, unfound, signed, cfaOutside, cfaLow, raLost, wordOutside, numberOfRefusal, window, numberOfStepCause}
 use Rattle.caller.specs.computed.Caller.{spotOf, valueOf, bothOf, valuesOf, ifFits, stepAfter, lookAt, withFinding, unlessSigned, withCfa, unlessLow, unlessLost, withValues, fromSpots, fromCfa, fromRow, fromFinding, stepOf, stepIn}
@@ -46,11 +46,6 @@ fp-refused registers cfa word.Outside = refl
 fp-refused registers cfa (word.Is ra) = refl
 
 -- ---- the step where the checks so far pass, and what each refusal makes of it
-
--- there is always a PC to ask
-pub asked-somewhere : (registers : Registers) → ¬ (askedOf registers ≡ Nowhere)
-unfolding askedOf
-asked-somewhere registers e = let z : _≡_ {A = ℕ} 0 1 = cc in omega arith
 
 module _ (s stack : List ℕ) (lies : Where) (registers : Registers) where
   abbrev answer : Step
@@ -77,6 +72,11 @@ module _ (s stack : List ℕ) (lies : Where) (registers : Registers) where
       → answer ≡ fromFinding (shapeOf s) stack lies registers found
   unfolding stepAfter stepOf lookAt
   found-given obeys fits asked looks = fits-given fits ∙ rw (accepted-exactly-when s .1 obeys) (rw asked (rw looks))
+
+  -- and there is no PC to ask
+  nowhere-given : NothingAsked s stack lies registers → answer ≡ Refused registers 21
+  unfolding stepAfter stepOf lookAt fromFinding withFinding
+  nowhere-given h = fits-given (h .fits) ∙ rw (accepted-exactly-when s .1 (h .obeys)) (rw (h .asked))
 
   none-given : (why : Unfound) → LookedUp s stack lies registers (λ d. UnfoundCase s d why) → answer ≡ Refused registers (numberOfUnfound why)
   unfolding fromFinding withFinding
@@ -155,8 +155,10 @@ module _ (s stack : List ℕ) (lies : Where) (registers : Registers) where
   -- ---- every case makes its answer
 
   pub refusal-given : (refusal : Refusal) → OnRefusal s stack lies registers refusal → answer ≡ Refused registers (numberOfRefusal refusal)
-  unfolding numberOfRefusal
-  refusal-given (unfound why) h = none-given why h
+  unfolding numberOfRefusal numberOfUnfound
+  refusal-given (unfound noFunction) h = ⊎-elim (none-given noFunction) nowhere-given h
+  refusal-given (unfound dispute) h = none-given dispute h
+  refusal-given (unfound noRow) h = none-given noRow h
   refusal-given signed h = signed-given (h .1) (h .2)
   refusal-given cfaOutside h = outside-given (h .1) (h .2) (h .3)
   refusal-given cfaLow h = low-given (h .2) (h .3)
@@ -180,6 +182,11 @@ module _ (s stack : List ℕ) (lies : Where) (registers : Registers) where
 
   some-refusal : (refusal : Refusal) → OnRefusal s stack lies registers refusal → SomeCase
   some-refusal refusal on = (Refused registers (numberOfRefusal refusal), (refl, inr (refusal, refl, on)))
+
+  some-unfound : (why : Unfound) → LookedUp s stack lies registers (λ d. UnfoundCase s d why) → SomeCase
+  some-unfound noFunction h = some-refusal (unfound noFunction) (inl h)
+  some-unfound dispute h = some-refusal (unfound dispute) h
+  some-unfound noRow h = some-refusal (unfound noRow) h
 
   words-decided : (row : Row) (cfa : ℕ) → WordsAt s stack lies registers row cfa → SomeCase
   words-decided row cfa h =
@@ -212,13 +219,13 @@ module _ (s stack : List ℕ) (lies : Where) (registers : Registers) where
 
   -- by the PC asked
   asked-decided : WindowFits stack lies → Obeys s → (asked : Asked) → askedOf registers ≡ asked → SomeCase
-  asked-decided fits obeys Nowhere e = absurd (asked-somewhere registers e)
+  asked-decided fits obeys Nowhere e = some-refusal (unfound noFunction) (inr (record { fits = fits; obeys = obeys; asked = e }))
   asked-decided fits obeys (At pc) e =
       ⊎-elim
       (λ found.
       let (row, i, k, case) = found in
       row-decided row (record { fits = fits; obeys = obeys; pc = pc; asked = e; holds = (i, k, case) }))
-      (λ none. some-refusal (unfound (none .0)) (record { fits = fits; obeys = obeys; pc = pc; asked = e; holds = none .1 }))
+      (λ none. some-unfound (none .0) (record { fits = fits; obeys = obeys; pc = pc; asked = e; holds = none .1 }))
       (looked-up s obeys (lies .section) pc)
 
   some-case : SomeCase

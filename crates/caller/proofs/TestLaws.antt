@@ -24,8 +24,8 @@ use Rattle.section.specs.declared.shape.Shape.{Shape}
 use Rattle.accept.proofs.Decides.{Shows, shown, denied, at-most, equal, both, either}
 use Rattle.lookup.proofs.CoveringLaws.{by-value, is-false}
 use Rattle.caller.specs.Cases.{WindowFits, Inside, WordIs, ValueIs, Outside, NoMark, Rule24, Rule26}
-use Rattle.caller.specs.Frame.{callerSp}
-use Rattle.caller.specs.computed.Caller.{hasMark, isSigned, isLow, spotAt, spotOf, isLost, valueOf}
+use Rattle.caller.specs.Frame.{hasMark, callerSp}
+use Rattle.caller.specs.computed.Caller.{isSigned, isLow, spotAt, spotOf, isLost, valueOf}
 use Rattle.caller.specs.declared.registers.Registers.{Registers}
 use Rattle.caller.specs.declared.registers.Where.{Where}
 

@@ -22,10 +22,11 @@ use Rattle.section.specs.declared.shape.Shape.{Shape}
 use Rattle.accept.specs.Given.{Rule, numberOfRule, BrokenFirst}
 use Rattle.accept.specs.Given as accept
 use Rattle.accept.specs.Rules.{Obeys}
-use Rattle.lookup.specs.Cases.{FoundCase, UnfoundCase}
+use Rattle.lookup.specs.Cases.{NoneCovers, SomeTwoCover, FoundCase, NoRowCase}
+use Rattle.lookup.specs.Numbers.{noFunction, dispute, noRow}
 use Rattle.caller.specs.Frame.{askedOf, cfaOf, callerSp}
 use Rattle.caller.specs.Numbers.{Refusal, unfound, signed, cfaOutside, cfaLow, raLost, wordOutside, numberOfRefusal, StepCause, window, unsound, refused, numberOfStepCause}
-use Rattle.caller.specs.declared.registers.Asked.the-variants.{At}
+use Rattle.caller.specs.declared.registers.Asked.the-variants.{At, Nowhere}
 use Rattle.caller.specs.declared.registers.Registers.{Registers}
 use Rattle.caller.specs.declared.registers.Step.{Step}
 use Rattle.caller.specs.declared.registers.Step.the-variants.{Caller, Unsound, Refused}
@@ -99,6 +100,16 @@ Rule27 registers row = (row .ra ≡ Register) × NoMark registers
 abbrev pub Rule28 : List ℕ → Where → Row → ℕ → Type 0
 Rule28 stack lies row cfa = Outside stack (lies .stack) cfa (row .ra) ⊎ Outside stack (lies .stack) cfa (row .fp)
 
+-- ---- the PC asked (`asked-exactly-when`, `nowhere-exactly-when`)
+
+-- "without the first-frame mark, look up PC minus 1; with it, PC itself."
+abbrev pub Asks : Registers → ℕ → Type 0
+Asks registers pc = (¬ NoMark registers × (pc ≡ registers .pc)) ⊎ (NoMark registers × (pc + 1 ≡ registers .pc))
+
+-- "PC 0 without the mark"
+abbrev pub AsksNothing : Registers → Type 0
+AsksNothing registers = NoMark registers × (registers .pc ≡ 0)
+
 -- ---- "Checks in order": what a step came to
 
 module _ (s stack : List ℕ) (lies : Where) (registers : Registers) where
@@ -110,6 +121,12 @@ module _ (s stack : List ℕ) (lies : Where) (registers : Registers) where
     pub pc : ℕ
     pub asked : askedOf registers ≡ At pc
     pub holds : Holds (distance (lies .section) pc)
+
+  -- "PC 0 without the mark is answered 21, after the section checks, with no lookup made": they pass, and there is no PC to ask
+  pub record NothingAsked : Type 0 where
+    pub fits : WindowFits stack lies
+    pub obeys : Obeys s
+    pub asked : askedOf registers ≡ Nowhere
 
   -- the lookup finds this row: of some function i, with some number k
   abbrev pub RowFound : Row → Type 0
@@ -131,7 +148,9 @@ module _ (s stack : List ℕ) (lies : Where) (registers : Registers) where
 
   -- the step's own refusal of this name is the first
   abbrev pub OnRefusal : Refusal → Type 0
-  OnRefusal (unfound why) = LookedUp (λ d. UnfoundCase s d why)
+  OnRefusal (unfound noFunction) = LookedUp (NoneCovers s) ⊎ NothingAsked
+  OnRefusal (unfound dispute) = LookedUp (SomeTwoCover s)
+  OnRefusal (unfound noRow) = LookedUp (λ d. (i : ℕ) × NoRowCase s d i)
   OnRefusal signed = (row : Row) × RowFound row × Rule24 (shapeOf s) row
   OnRefusal cfaOutside = (row : Row) × RowFound row × ¬ Rule24 (shapeOf s) row × Rule25 registers row
   OnRefusal cfaLow = (row : Row) × (cfa : ℕ) × CfaAt row cfa × Rule26 registers cfa

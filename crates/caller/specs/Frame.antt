@@ -1,17 +1,28 @@
--- What a frame's registers say by themselves (SPECIFICATION 5.6 and 5.11): the PC that is asked, CFA by a row, and the caller's SP
--- by CFA.
-use Prim.Native.Nat.{ℕ}
+-- What a frame's registers say by themselves (SPECIFICATION 5.1, 5.6, 5.11 and 5.13): the mark, the PC that is asked, CFA by a row, and
+-- the caller's SP by CFA.
+use Prim.Native.Nat.{ℕ, zero, suc}
+use mathlib.Core.Bool.{Bool, true, false, not}
+use lib.Dec.{eqb}
 use lib.IntN.{ℤ, pos, _+ℤ_}
 use Rattle.section.specs.declared.row.Base.{Base}
 use Rattle.section.specs.declared.row.Base.the-variants.{Fp, Sp}
 use Rattle.section.specs.declared.row.Row.{Row}
 use Rattle.caller.specs.declared.registers.Asked.{Asked}
-use Rattle.caller.specs.declared.registers.Asked.the-variants.{At}
+use Rattle.caller.specs.declared.registers.Asked.the-variants.{At, Nowhere}
 use Rattle.caller.specs.declared.registers.Registers.{Registers}
 
--- "Lookup at PC.": the PC asked, the one that is looked up
+-- "a first-frame mark": any number but 0
+unfoldable pub hasMark : Registers → Bool
+hasMark registers = not (eqb (registers .first) 0)
+
+-- "PC minus 1", which is inside the call that the return address PC stands behind; before PC 0 there is none
+unfoldable pub justBefore : ℕ → Asked
+justBefore zero = Nowhere
+justBefore (suc pc) = At pc
+
+-- request 03, "without the first-frame mark, look up PC minus 1; with it, PC itself": the PC asked, the one that is looked up
 unfoldable pub askedOf : Registers → Asked
-askedOf registers = At (registers .pc)
+askedOf registers = elim (hasMark registers) [ true ↦ At (registers .pc) | false ↦ justBefore (registers .pc) ]
 
 -- "CFA is base plus first offset.", an exact number
 unfoldable pub baseValue : Registers → Base → ℕ

@@ -5,7 +5,7 @@ use section::row::Base;
 use section::row::Row;
 ghost use mathlib.Core.Path.{_≡_};
 ghost use Rattle.numbers.specs.computed.Address.{inMemory};
-ghost use Rattle.caller.specs.Frame.{askedOf, baseValue, cfaOf, callerSp, cfaOfSp};
+ghost use Rattle.caller.specs.Frame.{justBefore, askedOf, baseValue, cfaOf, callerSp, cfaOfSp};
 ghost use Rattle.caller.specs.computed.Caller.{isLow};
 
 // Five numbers, all of them any value. The first-frame mark is set where `first` is not 0.
@@ -48,9 +48,25 @@ pub enum Step {
     },
 }
 
+// One before a PC. A return address stands behind its call, and behind the function where the call is the function's last instruction;
+// one before it is inside both. Before 0 there is nothing.
+fn just_before(pc: u64) -> Asked
+    ensures { λ r. ⌜ r ≡ justBefore pc ⌝ }
+{
+    if pc == 0 {
+        return Asked::Nowhere;
+    }
+    Asked::At(pc - 1)
+}
+
+// The crashed function's own PC is at an instruction, every other PC is a return address: the mark tells them apart.
 pub fn asked_of(registers: Registers) -> Asked
     ensures { λ r. ⌜ r ≡ askedOf registers ⌝ }
 {
+    let before = just_before(registers.pc);
+    if registers.first == 0 {
+        return before;
+    }
     Asked::At(registers.pc)
 }
 

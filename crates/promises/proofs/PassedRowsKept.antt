@@ -1,6 +1,6 @@
 -- What is promised of the rows that are passed is kept by every four calls that keep the contracts of ours.
 -- Assumes nothing.
-use mathlib.Core.Path.{_≡_, refl, sym, ap, subst}
+use mathlib.Core.Path.{_≡_, refl, sym, _∙_, ap, subst}
 use mathlib.Core.List.{List}
 use Prim.Native.Nat.{ℕ}
 use Rattle.numbers.specs.Start.{distance}
@@ -14,10 +14,12 @@ use Rattle.lookup.specs.Scanned.{LookAlike}
 use Rattle.lookup.specs.computed.Answers.{answerAfter, lookupOf, lookIn}
 use Rattle.lookup.proofs.AnswerAgreement.{answer-agrees}
 use Rattle.caller.specs.Frame.{askedOf}
-use Rattle.caller.specs.computed.Caller.{lookAt, stepAfter, stepIn}
-use Rattle.caller.specs.declared.registers.Asked.the-variants.{At}
+use Rattle.caller.specs.computed.Caller.{lookAt, stepAfter, stepOf, stepIn}
+use Rattle.caller.specs.declared.registers.Asked.{Asked}
+use Rattle.caller.specs.declared.registers.Asked.the-variants.{At, Nowhere}
 use Rattle.caller.specs.declared.registers.Registers.{Registers}
 use Rattle.caller.specs.declared.registers.Where.{Where}
+use Rattle.caller.proofs.Asked.{nowhere-exactly-when, no-lookup}
 use Rattle.caller.proofs.Exactly.{through-finding}
 use Rattle.promises.specs.PassedRows.{PassesRows, RowsPassed}
 use Rattle.promises.specs.computed.Ours.{ours}
@@ -30,15 +32,25 @@ module _ (s t : List ℕ) (accepted : verdict s ≡ Accepted) (also : verdict t 
   one-finding address pc alike =
       ap (λ answer. findingOf (answer .outcome)) (rw (accepted, also) at (answer-agrees s t accepted also address pc alike))
 
+  -- by the PC asked; where there is none, no lookup is made in either
+  checked-step : (stack : List ℕ) (lies : Where) (registers : Registers) (asked : Asked) → askedOf registers ≡ asked
+      → ((pc : ℕ) → askedOf registers ≡ At pc → LookAlike s t (distance (lies .section) pc))
+      → stepOf (shapeOf s) (lookIn s (lies .section)) stack lies registers ≡ stepOf (shapeOf t) (lookIn t (lies .section)) stack lies registers
+  unfolding lookAt
+  checked-step stack lies registers Nowhere e alike =
+      let nothing = nowhere-exactly-when registers .0 e in
+      no-lookup registers nothing _ _ stack lies ∙ sym (no-lookup registers nothing _ _ stack lies)
+  checked-step stack lies registers (At pc) e alike =
+      let here = alike pc e in
+      through-finding (shapeOf s) (shapeOf t) (lookIn s (lies .section)) (lookIn t (lies .section)) stack lies registers
+      (shape-agrees s t (here .header))
+      (rw e (one-finding (lies .section) pc here))
+
   one-step : (stack : List ℕ) (lies : Where) (registers : Registers)
       → ((pc : ℕ) → askedOf registers ≡ At pc → LookAlike s t (distance (lies .section) pc))
       → stepIn s stack lies registers ≡ stepIn t stack lies registers
-  unfolding stepIn stepAfter lookAt askedOf
-  one-step stack lies registers alike =
-      let here = alike (registers .pc) refl in
-      let step = through-finding (shapeOf s) (shapeOf t) (lookIn s (lies .section)) (lookIn t (lies .section)) stack lies registers
-      (shape-agrees s t (here .header)) (one-finding (lies .section) (registers .pc) here) in
-      rw (accepted, also, step)
+  unfolding stepIn stepAfter
+  one-step stack lies registers alike = rw (accepted, also, checked-step stack lies registers (askedOf registers) refl alike)
 
 pub passes-rows : PassesRows ours
 unfolding ours

@@ -1,9 +1,9 @@
--- Document 01, "Numbers to agree on" (SPECIFICATION 7.1 to 7.3): K1 to K12 as a single table of sections, questions and expected
--- replies, and beside it the three AArch64 examples, which bear no K. The replies are asked of any four calls.
+-- Document 01, "Numbers to agree on" (SPECIFICATION 7.1 to 7.4): K1 to K12 as a single table of sections, questions and expected
+-- replies, and beside it the three AArch64 examples, which bear no K, and those of request 03. The replies are asked of any four calls.
 use mathlib.Core.Path.{_≡_}
-use mathlib.Core.List.{List, [], _∷_}
-use Prim.Native.Nat.{ℕ}
-use lib.ListN.{take, replicate}
+use mathlib.Core.List.{List, [], _∷_, _++_}
+use Prim.Native.Nat.{ℕ, _^_, _-_}
+use lib.ListN.{take, replicate, set}
 use Rattle.section.specs.SectionS.{sectionS, overlappingS, unsortedS, atEntry, withFrame}
 use Rattle.accept.specs.declared.verdict.Verdict.{Verdict}
 use Rattle.accept.specs.declared.verdict.Verdict.the-variants.{Accepted, Refused}
@@ -139,4 +139,70 @@ aarch64Table =
     ∷ agreed (bigLeaf 0) (ofLeaf 1) (aStep (step.Caller (record { pc = 0x401008; sp = 0x7000; fp = 0x7030; lr = 0x401008; first = 0 })))
     ∷ agreed (bigLeaf 0) (ofLeaf 0) (aStep (step.Refused (inLeaf 0) 26))
     ∷ agreed (bigLeaf 16) (ofLeaf 0) (aStep (step.Refused (inLeaf 0) 27))
+    ∷ []
+
+-- ---- request 03: "A function that ends in a call which never returns leaves a return address just past its own end"
+
+-- S with its second function at the very next byte behind the first
+unfoldable pub adjacentS : List ℕ
+adjacentS = set sectionS 48 0x20
+
+-- S, its first function with one row, `withFrame`, which starts at 4
+unfoldable pub lateS : List ℕ
+lateS = set (set (set sectionS 36 0x03) 40 0x01) 12 0x02
+
+-- S, its first function two repeated blocks of 16 bytes
+unfoldable pub repeatedS : List ℕ
+repeatedS = set (set sectionS 44 0x10) 45 0x10
+
+-- S with its first start -0x1000
+unfoldable pub belowS : List ℕ
+belowS = set (set (set sectionS 29 0xf0) 30 0xff) 31 0xff
+
+-- 64 bytes, all zero but FP's word 0x7038 and RA's 0x401044 behind it
+unfoldable pub callWindow : List ℕ
+callWindow = 0x38 ∷ 0x70 ∷ replicate 6 0 ++ 0x44 ∷ 0x10 ∷ 0x40 ∷ replicate 53 0
+
+unfoldable pub called : ℕ → ℕ → Registers
+called pc first = record { pc = pc; sp = 0x7000; fp = 0x7000; lr = 0; first = first }
+
+-- a step with the mark or without, and one with the section at another address
+unfoldable pub ofCall : ℕ → ℕ → Question
+ofCall pc first = askCaller callWindow loaded (called pc first)
+
+unfoldable pub lyingAt : ℕ → ℕ → ℕ → Question
+lyingAt section pc first = askCaller callWindow (record { section = section; stack = 0x7000 }) (called pc first)
+
+-- the callers by the two rows of S: RA is the word at CFA - 8 in both, as read
+unfoldable pub byEntry : Reply
+byEntry = aStep (step.Caller (record { pc = 0x7038; sp = 0x7008; fp = 0x7000; lr = 0; first = 0 }))
+
+unfoldable pub byFrame : Reply
+byFrame = aStep (step.Caller (record { pc = 0x401044; sp = 0x7010; fp = 0x7038; lr = 0; first = 0 }))
+
+unfoldable pub lastCallTable : List Agreed
+lastCallTable =
+    -- the function's last call, its neighbour at the very next byte: the caller is the function's; with the mark, and in a lookup, the
+    -- neighbour's
+    agreed adjacentS (ofCall 0x401020 0) byFrame
+    ∷ agreed adjacentS (ofCall 0x401020 1) byEntry
+    ∷ agreed adjacentS (at 0x401020) (anAnswer (record { outcome = Found atEntry 1 0; compared = 1 }))
+    -- the same with no neighbour
+    ∷ agreed sectionS (ofCall 0x401020 0) byFrame
+    ∷ agreed sectionS (ofCall 0x401020 1) (aStep (step.Refused (called 0x401020 1) 21))
+    -- at a function's first byte, with nobody before it
+    ∷ agreed sectionS (ofCall 0x401040 0) (aStep (step.Refused (called 0x401040 0) 21))
+    ∷ agreed sectionS (ofCall 0x401040 1) byEntry
+    -- at its first row's start, which is above 0
+    ∷ agreed lateS (ofCall 0x401004 0) (aStep (step.Refused (called 0x401004 0) 23))
+    ∷ agreed lateS (ofCall 0x401004 1) byFrame
+    -- at the first byte of a repeated block: o is the last of the block before, 15
+    ∷ agreed repeatedS (ofCall 0x401010 0) byFrame
+    ∷ agreed repeatedS (ofCall 0x401010 1) byEntry
+    -- "PC 0 without the mark": though a function covers PC 0, or 2^64 - 1; "after the section checks", and those after 41
+    ∷ agreed belowS (lyingAt 0x1000 0 1) byEntry
+    ∷ agreed belowS (lyingAt 0x1000 0 0) (aStep (step.Refused (called 0 0) 21))
+    ∷ agreed sectionS (lyingAt (2 ^ 64 - 0x1020) (2 ^ 64 - 1) 1) byFrame
+    ∷ agreed sectionS (lyingAt (2 ^ 64 - 0x1020) 0 0) (aStep (step.Refused (called 0 0) 21))
+    ∷ agreed (take 77 sectionS) (ofCall 0 0) (aStep (step.Unsound (called 0 0) 8 0))
     ∷ []

@@ -30,6 +30,9 @@ fn show_arguments() {
         b"PC, SP, FP and LR are the registers. FIRST is 0 for no first-frame mark, any other number for the mark.\n",
     );
     say(
+        b"A caller looks up PC with the mark and PC - 1 without it; a trace looks up PC, then each RA - 1.\n",
+    );
+    say(
         b"LIMIT is the most frames, up to 256, and 0 stands for 64. INDEX counts the functions from 0.\n",
     );
     say(b"LIMIT and INDEX are decimal, 1 to 19 digits.\n");

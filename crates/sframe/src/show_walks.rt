@@ -5,8 +5,10 @@ use crate::refusals::show_unsound;
 use crate::say::say;
 use crate::say::say_number;
 use crate::say::say_word;
+use caller::registers::Asked;
 use caller::registers::Registers;
 use caller::registers::Step;
+use caller::registers::asked_of;
 use trace::answer::Ending;
 use trace::answer::Traced;
 
@@ -25,11 +27,33 @@ fn show_caller(caller: Registers) {
     show_register(b"LR", caller.lr);
 }
 
+fn show_asked(asked: Asked) {
+    say(b"looked up: ");
+    match asked {
+        Asked::At(pc) => say_word(pc),
+        Asked::Nowhere => say(b"nothing, since PC is 0 without the first-frame mark"),
+    }
+    say(b"\n");
+}
+
+// With 21, 22 and 23 the PC that a step from these registers looked up: without the mark it stands nowhere else.
+fn show_looked_up(number: u64, registers: Registers) {
+    match number {
+        21..=23 => show_asked(asked_of(registers)),
+        _ => {}
+    }
+}
+
+fn show_refused_step(old: Registers, number: u64) {
+    show_refused(number);
+    show_looked_up(number, old);
+}
+
 pub fn show_step(step: Step) {
     match step {
         Step::Caller(caller) => show_caller(caller),
         Step::Unsound { old, number, index } => show_unsound(number, index),
-        Step::Refused { old, number } => show_refused(number),
+        Step::Refused { old, number } => show_refused_step(old, number),
     }
 }
 
@@ -77,13 +101,31 @@ fn show_frames(words: &[u64], frames: u64, number: u64) {
     show_ended(number);
 }
 
-// A trace by its answer and the words of its frames. 41 to 43 refuse it before any frame.
-pub fn show_trace(traced: Traced, words: &[u64]) {
+// The registers that the next step behind these frames starts from, as far as they tell what it looks up: those of the crash, with
+// the mark; or the last frame's RA, without it.
+fn next_from(crash: Registers, words: &[u64]) -> Registers {
+    let mut next = crash;
+    if words.len() < 3 {
+        next.first = 1;
+        return next;
+    }
+    next.pc = words[words.len() - 2];
+    next.first = 0;
+    next
+}
+
+fn show_refused_trace(crash: Registers, words: &[u64], frames: u64, number: u64) {
+    show_frames(words, frames, number);
+    show_looked_up(number, next_from(crash, words));
+}
+
+// A trace by where it began, its answer and the words of its frames. 41 to 43 refuse it before any frame.
+pub fn show_trace(crash: Registers, traced: Traced, words: &[u64]) {
     let ending = traced.ending;
     match ending {
         Ending::Outermost => show_frames(words, traced.frames, 30),
         Ending::Full => show_frames(words, traced.frames, 31),
-        Ending::Refused(number) => show_frames(words, traced.frames, number),
+        Ending::Refused(number) => show_refused_trace(crash, words, traced.frames, number),
         Ending::Shut(number) => show_refused(number),
         Ending::Unsound { number, index } => show_unsound(number, index),
     }

@@ -2,5 +2,5 @@
 use crate::say::say;
 
 pub fn show_version() {
-    say(b"sframe 0.2.1\n");
+    say(b"sframe 0.3.0\n");
 }

@@ -91,7 +91,7 @@ fn trace_into(
 ) {
     let traced = trace(section, stack, lies, registers, limit, buffer);
     let written = written_in(buffer, traced.frames);
-    show_trace(traced, &buffer[..written]);
+    show_trace(registers, traced, &buffer[..written]);
 }
 
 fn answer_trace(section: &[u8], stack: &[u8], lies: Where, registers: Registers) {

@@ -1,3 +1,4 @@
+pub mod Asked
 pub mod BufferLaws
 pub mod CaseLaws
 pub mod DoorLaws

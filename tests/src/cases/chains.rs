@@ -7,6 +7,15 @@ use crate::maker::{Function, Machine, Row, Section, RELATIVE, SORTED};
 use crate::ADDRESS;
 
 pub fn all() -> Vec<Case> {
+    of_forms("chain", 0)
+}
+
+/// The same with return addresses one behind the PCs of the chains, so that these are looked up in every frame.
+pub fn returned() -> Vec<Case> {
+    of_forms("behind", 1)
+}
+
+fn of_forms(kind: &str, behind: u64) -> Vec<Case> {
     let mut cases = Vec::new();
     for machine in Machine::ALL {
         // AMD64 has all of them, each byte order of AArch64 half.
@@ -16,7 +25,7 @@ pub fn all() -> Vec<Case> {
             }
             let section = section(machine, flags, auxiliary);
             let ground = Ground::of(machine, section);
-            cases.push(ground.case(name, walks(&ground)));
+            cases.push(ground.case(&format!("{kind}_{name}"), walks(&ground, behind)));
         }
     }
     cases
@@ -24,10 +33,10 @@ pub fn all() -> Vec<Case> {
 
 /// Flags, bytes of auxiliary header, and the byte order of AArch64 that the form is stored for.
 const FORMS: [(&str, u8, usize, bool); 4] = [
-    ("chain_sorted", SORTED, 0, false),
-    ("chain_unsorted", 0, 5, true),
-    ("chain_rel_sorted", SORTED | RELATIVE, 12, true),
-    ("chain_rel_unsorted", RELATIVE, 0, false),
+    ("sorted", SORTED, 0, false),
+    ("unsorted", 0, 5, true),
+    ("rel_sorted", SORTED | RELATIVE, 12, true),
+    ("rel_unsorted", RELATIVE, 0, false),
 ];
 
 // In an unsorted section the functions stand in another order.
@@ -66,19 +75,20 @@ const CHAINS: [&[(i64, usize)]; 4] = [
     &[(0x1_ffff, 8), (-0x1fff, 8), (0x3_003c, 0)],
 ];
 
-fn walks(ground: &Ground) -> Vec<Expected> {
-    CHAINS.map(|chain| through(ground, chain)).into()
+fn walks(ground: &Ground, behind: u64) -> Vec<Expected> {
+    CHAINS.map(|chain| through(ground, chain, behind)).into()
 }
 
-// Each frame's RA is the PC behind it in the chain, and 0 in the last; every other word says where it stands.
-fn through(ground: &Ground, chain: &[(i64, usize)]) -> Expected {
+// Each frame's RA is the PC behind it in the chain or one behind that, and 0 in the last; every other word says where
+// it stands.
+fn through(ground: &Ground, chain: &[(i64, usize)], behind: u64) -> Expected {
     let length: usize = chain.iter().map(|(_, cfa)| cfa).sum();
     let mut words: Vec<u64> = (0..length as u64 / 8).map(|place| 0xf000_0000 + place).collect();
     let mut cfa = 0;
     for (frame, (_, offset)) in chain.iter().enumerate() {
         cfa += offset / 8;
         if *offset > 0 {
-            words[cfa - 1] = chain.get(frame + 1).map_or(0, |next| pc(next.0));
+            words[cfa - 1] = chain.get(frame + 1).map_or(0, |next| pc(next.0) + behind);
         }
     }
     ground.walk_with(at(pc(chain[0].0), 0x7000, 0x9999), ground.words(0x7000, &words), 8, 24)
@@ -88,13 +98,24 @@ fn through(ground: &Ground, chain: &[(i64, usize)]) -> Expected {
 mod tests {
     use super::*;
 
+    fn endings(case: &Case) -> Vec<(u64, u64)> {
+        case.walks.iter().map(|(_, walked)| (walked.traced.frames, walked.traced.ending.number())).collect()
+    }
+
     // The offsets beside the PCs are right: every chain but the last ends with its own 0.
     #[test]
     fn chains_are_walked_to_their_end() {
+        for case in returned() {
+            assert_eq!(endings(&case), [(8, 30), (4, 30), (7, 30), (2, 21)], "{}", case.name);
+        }
+    }
+
+    // Where a return address stands at the first byte of a function, nobody stands before it; and before the first byte
+    // of a row or a block is another row.
+    #[test]
+    fn chains_at_the_places_themselves_go_astray() {
         for case in all() {
-            let endings: Vec<(u64, u64)> =
-                case.walks.iter().map(|(_, walked)| (walked.traced.frames, walked.traced.ending.number())).collect();
-            assert_eq!(endings, [(8, 30), (4, 30), (7, 30), (2, 21)], "{}", case.name);
+            assert_eq!(endings(&case)[..3], [(1, 21), (3, 21), (2, 21)], "{}", case.name);
         }
     }
 }

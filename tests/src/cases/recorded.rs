@@ -1,5 +1,7 @@
-//! A crash as a program recorded it in its own signal handler (vectors/recorder): the section that the program was
-//! linked with, the registers of the fault, the live stack, and the frames as the program noted them on its way down.
+//! Crashes of real programs: the section that each was linked with, the registers of the fault, the live stack, and
+//! the frames as somebody else knows them. One was recorded by the program in its own signal handler
+//! (vectors/recorder), with the frames that it noted on its way down; the others, whose functions end in calls that
+//! never return, were stopped by a debugger (vectors/last_calls), which told their frames.
 
 use super::questions::{defined, Question};
 use super::walks::Expected;
@@ -8,19 +10,41 @@ use crate::in_repository;
 use crate::maker::SORTED;
 use crate::reader::{functions, Ending, Registers, Step, Where};
 use crate::walk::Walk;
+use std::collections::BTreeSet;
 use std::fs;
 
-const FOLDER: &str = "vectors/recorder";
+const BY_ITSELF: &str = "vectors/recorder";
+const LAST_CALLS: &str = "vectors/last_calls";
+
+/// The crashes in functions that end in calls: each section, and the folders of its runs.
+pub const LAST_CALL_RUNS: [(&str, [&str; 2]); 2] =
+    [("amd64", ["amd64_abort", "amd64_halt"]), ("aarch64", ["aarch64_abort", "aarch64_halt"])];
 
 pub fn all() -> Vec<Case> {
-    let section = file("section.sframe");
-    let run = Run::read();
-    let questions = run.questions(&section);
+    let section = file(&format!("{BY_ITSELF}/section.sframe"));
+    let run = Run::read(BY_ITSELF);
+    let questions = run.questions(&section, &run.pcs());
     vec![Case::new("ok_recorded_crash", section, ACCEPTED).asked(questions).walked(vec![run.walk()])]
+}
+
+/// A case for each of the two machines, with two crashes; asked at each return address as it stands, too, where a
+/// lookup finds the neighbour of the function that called.
+pub fn last_calls() -> Vec<Case> {
+    let of_machine = |(machine, folders): (&str, [&str; 2])| {
+        let section = file(&format!("{LAST_CALLS}/{machine}.sframe"));
+        let runs = folders.map(|folder| Run::read(&format!("{LAST_CALLS}/{folder}")));
+        let pcs: BTreeSet<u64> = runs.iter().flat_map(Run::pcs).flat_map(|pc| [pc - 1, pc]).collect();
+        let questions = runs[0].questions(&section, &Vec::from_iter(pcs));
+        Case::new(format!("ok_last_calls_{machine}"), section, ACCEPTED)
+            .asked(questions)
+            .walked(runs.iter().map(Run::walk).collect())
+    };
+    LAST_CALL_RUNS.map(of_machine).into()
 }
 
 /// What stands beside the section and the stack.
 struct Run {
+    folder: String,
     lies: Where,
     registers: Registers,
     limit: u64,
@@ -29,15 +53,16 @@ struct Run {
 }
 
 impl Run {
-    fn read() -> Run {
-        let text = text("run.txt");
+    fn read(folder: &str) -> Run {
+        let text = text(&format!("{folder}/run.txt"));
         let value = |name: &str| {
             let found = text.lines().find_map(|line| line.strip_prefix(name)?.strip_prefix(' '));
-            number(found.unwrap_or_else(|| panic!("{FOLDER}/run.txt has no {name}")))
+            number(found.unwrap_or_else(|| panic!("{folder}/run.txt has no {name}")))
         };
-        let frames: Vec<[u64; 3]> = self::text("frames.txt").lines().map(frame).collect();
+        let frames: Vec<[u64; 3]> = self::text(&format!("{folder}/frames.txt")).lines().map(frame).collect();
         assert_eq!(frames.len() as u64, value("frames"), "the two files speak of as many frames");
         Run {
+            folder: folder.to_string(),
             lies: Where { section: value("section_address"), stack: value("stack_address") },
             registers: Registers { pc: value("pc"), sp: value("sp"), fp: value("fp"), lr: value("lr"), first: 1 },
             limit: value("limit"),
@@ -46,12 +71,19 @@ impl Run {
         }
     }
 
-    // At the PC of the fault and at each return address; the last is the C library's, which no function covers.
-    fn questions(&self, section: &[u8]) -> Vec<Question> {
+    // The PC of the fault and each return address; the last is where the program was called, which no function covers.
+    fn pcs(&self) -> Vec<u64> {
         let returns = self.frames.iter().map(|[_, ra, _]| *ra);
-        let pcs = [self.registers.pc].into_iter().chain(returns);
-        let places = pcs.map(|pc| i128::from(pc) - i128::from(self.lies.section)).collect();
+        [self.registers.pc].into_iter().chain(returns).collect()
+    }
+
+    fn questions(&self, section: &[u8], pcs: &[u64]) -> Vec<Question> {
+        let places = pcs.iter().map(|&pc| i128::from(pc) - i128::from(self.lies.section)).collect();
         defined(section[3] & SORTED != 0, &functions(section), self.lies.section, &places)
+    }
+
+    fn stack(&self) -> Vec<u8> {
+        file(&format!("{}/stack.bin", self.folder))
     }
 
     // The first frame is the step's caller too.
@@ -60,7 +92,7 @@ impl Run {
         let step = Step::Caller(Registers { pc, sp, fp, lr: self.registers.lr, first: 0 });
         let words = 3 * self.limit as usize;
         let (lies, registers, limit) = (self.lies, self.registers, self.limit);
-        let walk = Walk { lies, registers, stack: file("stack.bin"), limit, words };
+        let walk = Walk { lies, registers, stack: self.stack(), limit, words };
         let walked = walk.stated(step, &self.frames, Ending::Refused(self.ending));
         (walk, walked)
     }
@@ -69,31 +101,31 @@ impl Run {
 // CFA, RA and FP, each hexadecimal.
 fn frame(line: &str) -> [u64; 3] {
     let words: Vec<u64> = line.split(' ').map(number).collect();
-    words.try_into().unwrap_or_else(|_| panic!("{FOLDER}/frames.txt: {line:?} is not three numbers"))
+    words.try_into().unwrap_or_else(|_| panic!("{line:?} is not three numbers"))
 }
 
 fn number(shown: &str) -> u64 {
-    u64::from_str_radix(shown, 16).unwrap_or_else(|error| panic!("{FOLDER}: {shown:?}: {error}"))
+    u64::from_str_radix(shown, 16).unwrap_or_else(|error| panic!("{shown:?}: {error}"))
 }
 
 fn file(name: &str) -> Vec<u8> {
-    let path = in_repository(FOLDER).join(name);
+    let path = in_repository(name);
     fs::read(&path).unwrap_or_else(|error| panic!("{}: {error}", path.display()))
 }
 
 fn text(name: &str) -> String {
-    String::from_utf8(file(name)).unwrap_or_else(|error| panic!("{FOLDER}/{name}: {error}"))
+    String::from_utf8(file(name)).unwrap_or_else(|error| panic!("{name}: {error}"))
 }
 
 #[cfg(test)]
 mod tests {
     use super::*;
-    use crate::reader::Outcome;
+    use crate::reader::{lookup, Outcome};
 
     // The walk is one through three functions of different frames into main, and out of the section.
     #[test]
     fn the_crash_lies_in_four_functions_and_leaves_the_section() {
-        let run = Run::read();
+        let run = Run::read(BY_ITSELF);
         let [case] = &all()[..] else { panic!("one case") };
         let mut covering: Vec<u64> = Vec::new();
         for question in &case.questions {
@@ -109,8 +141,30 @@ mod tests {
     // The stack window is what the registers say: from SP to the last frame's CFA.
     #[test]
     fn the_stack_reaches_from_sp_to_the_last_cfa() {
-        let run = Run::read();
-        assert_eq!(run.lies.stack, run.registers.sp);
-        assert_eq!(run.lies.stack + file("stack.bin").len() as u64, run.frames[3][0]);
+        let last_calls = LAST_CALL_RUNS.iter().flat_map(|(_, folders)| folders);
+        let folders = last_calls.map(|folder| format!("{LAST_CALLS}/{folder}")).chain([BY_ITSELF.to_string()]);
+        for run in folders.map(|folder| Run::read(&folder)) {
+            assert_eq!(run.lies.stack, run.registers.sp, "{}", run.folder);
+            let last = run.frames[run.frames.len() - 1];
+            assert_eq!(run.lies.stack + run.stack().len() as u64, last[0], "{}", run.folder);
+        }
+    }
+
+    // What was at fault: every return address but that of `begin` in the crash by abort stands at the first byte of a
+    // neighbour, so that PC itself, looked up, is in another function than PC - 1.
+    #[test]
+    fn the_neighbour_of_a_last_call_is_another_function() {
+        for (case, (machine, folders)) in last_calls().iter().zip(LAST_CALL_RUNS) {
+            for folder in folders {
+                let run = Run::read(&format!("{LAST_CALLS}/{folder}"));
+                let function = |pc: u64| match lookup(&case.section, run.lies.section, pc).outcome {
+                    Outcome::Found { function, .. } => Some(function),
+                    _ => None,
+                };
+                let blamed = run.frames.iter().filter(|[_, ra, _]| function(*ra) != function(ra - 1)).count();
+                let in_begin = usize::from(folder.ends_with("abort"));
+                assert_eq!((blamed, run.frames.len(), run.ending), (3 - in_begin, 3, 21), "{machine}, {folder}");
+            }
+        }
     }
 }

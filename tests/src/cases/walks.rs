@@ -60,7 +60,16 @@ impl Ground {
 
     pub fn walk_with(&self, registers: Registers, stack: Stack, limit: u64, words: usize) -> Expected {
         let lies = Where { section: ADDRESS, stack: stack.0 };
-        let walk = Walk { lies, registers, stack: stack.1, limit, words };
+        self.defined(Walk { lies, registers, stack: stack.1, limit, words })
+    }
+
+    /// The same as `walk`, with the section at another address.
+    pub fn walk_from(&self, section: u64, registers: Registers, stack: Stack) -> Expected {
+        let lies = Where { section, stack: stack.0 };
+        self.defined(Walk { lies, registers, stack: stack.1, limit: 4, words: 12 })
+    }
+
+    fn defined(&self, walk: Walk) -> Expected {
         let walked = walk.by_definition(&self.meaning);
         (walk, walked)
     }

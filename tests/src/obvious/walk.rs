@@ -49,7 +49,7 @@ impl Meaning {
     }
 }
 
-/// One step, by document 01's "One caller".
+/// One step, by document 01's "One caller" and request 03.
 pub fn step(meaning: &Meaning, stack: &[u8], lies: Where, registers: Registers) -> Step {
     let old = registers;
     if is_past_the_end(stack, lies) {
@@ -72,8 +72,13 @@ fn is_past_the_end(stack: &[u8], lies: Where) -> bool {
 fn caller(meaning: &Meaning, stack: &[u8], lies: Where, registers: Registers) -> Result<Registers, u64> {
     let Registers { pc, sp, fp, lr, first } = registers;
     let has_mark = first != 0;
-    // "Lookup at PC. 21, 22, 23."
-    let row = row_for(meaning, lies.section, pc)?;
+    // "without the first-frame mark, look up PC minus 1; with it, PC itself. .. PC 0 without the mark is answered 21 ..
+    // with no lookup made". Then "21, 22, 23."
+    let row = match (has_mark, pc) {
+        (true, _) => row_for(meaning, lies.section, pc)?,
+        (false, 0) => return Err(21),
+        (false, _) => row_for(meaning, lies.section, pc - 1)?,
+    };
     // "24: AArch64 and the row's signed bit is set." The bit is never set in the meaning of an AMD64 row.
     if row.signed {
         return Err(24);

@@ -1,4 +1,5 @@
-//! One caller: the registers of the function that called, as document 01 has it under "One caller".
+//! One caller: the registers of the function that called, as document 01 has it under "One caller", with the rule of
+//! request 03 for the PC that is looked up.
 //!
 //! A window is opened once, by rule 41, and after that every sum that could leave it is caught where it is made.
 #![forbid(unsafe_code)]
@@ -15,6 +16,15 @@ pub struct Registers {
     pub lr: u64,
     /// The first-frame mark: 0 is none, anything else is the mark.
     pub first: u64,
+}
+
+impl Registers {
+    /// The PC that a step looks up: PC itself with the first-frame mark, and PC minus 1 without it; none where that is
+    /// below 0.
+    #[inline]
+    pub fn looked_up(&self) -> Option<u64> {
+        self.pc.checked_sub(u64::from(self.first == 0))
+    }
 }
 
 /// Where the section and the first byte of the stack window lie, by their addresses.
@@ -81,7 +91,7 @@ impl Checked<'_> {
     // Rules 21 to 28. The stack is read behind all of them but the last.
     #[inline]
     pub(super) fn caller(&self, window: &Window, address: u64, registers: &Registers) -> Result<Registers, u64> {
-        let row = self.row_at(address, registers.pc)?;
+        let row = self.row_at(address, registers.looked_up().ok_or(21_u64)?)?;
         let marked = registers.first != 0;
         rule(24, row.signed)?;
         let base = match row.base {

@@ -75,18 +75,19 @@ pub fn walks(random: &mut Random, section: &[u8]) -> Vec<Walk> {
 
 // Frames that lead from one function to the next, as far as the window goes or something else ends them.
 fn lay_frames(random: &mut Random, checked: &Checked, functions: &[Function], big: bool, walk: &mut Walk) {
-    let (mut sp, mut fp, mut pc) = (walk.registers.sp, walk.registers.fp, walk.registers.pc);
+    let (mut sp, mut fp, mut looked_up) = (walk.registers.sp, walk.registers.fp, walk.registers.pc);
     for _ in 0..random.below(24) {
-        let Outcome::Found { row, .. } = checked.find(walk.lies.section, pc).outcome else { return };
+        let Outcome::Found { row, .. } = checked.find(walk.lies.section, looked_up).outcome else { return };
         let base = if row.base == Base::Sp { sp } else { fp };
         sp = base.wrapping_add_signed(row.cfa_offset);
-        pc = match row.ra {
+        let ra = match row.ra {
             Place::Register => walk.registers.lr,
             Place::AtOffset(offset) => {
-                let next = if random.once_in(16) { 0 } else { self::pc(random, functions, walk.lies.section) };
+                let next = if random.once_in(16) { 0 } else { return_address(random, functions, walk.lies.section) };
                 put(walk, big, sp.wrapping_add_signed(offset), next)
             }
         };
+        looked_up = ra.wrapping_sub(1);
         if let Place::AtOffset(offset) = row.fp {
             let next = sp.wrapping_add(8 * random.below(4));
             fp = put(walk, big, sp.wrapping_add_signed(offset), next);
@@ -109,12 +110,13 @@ fn walk(random: &mut Random, functions: &[Function], big: bool) -> Walk {
     let (address, length) = window(random);
     let section = if random.once_in(16) { random.pick(&[0, 0x1000, u64::MAX - 0xffff]) } else { ADDRESS };
     let near = |random: &mut Random| near_stack(random, address, length);
+    let first = random.pick(&[0, 0, 1, 1, 2, u64::MAX]);
     let registers = Registers {
-        pc: pc(random, functions, section),
+        pc: if first == 0 { return_address(random, functions, section) } else { pc(random, functions, section) },
         sp: near(random),
         fp: near(random),
-        lr: if random.once_in(2) { pc(random, functions, section) } else { random.pick(&[0, 1, u64::MAX]) },
-        first: random.pick(&[0, 0, 1, 1, 2, u64::MAX]),
+        lr: if random.once_in(2) { return_address(random, functions, section) } else { random.pick(&[0, 1, u64::MAX]) },
+        first,
     };
     let mut stack = Vec::new();
     while stack.len() < length {
@@ -154,19 +156,27 @@ fn near_stack(random: &mut Random, address: u64, length: usize) -> u64 {
     }
 }
 
-// A PC at a row of a function or a little behind it; now and then one of no function, or in one that has no row there.
+// A PC at a row of a function or a little behind it, and now and then its last; seldom one of no function, or in one
+// that has no row there.
 fn pc(random: &mut Random, functions: &[Function], section: u64) -> u64 {
     let has_row = |function: &&Function| function.rows.iter().any(|row| row.start < function.size);
     let some: Vec<&Function> =
         if random.once_in(24) { functions.iter().collect() } else { functions.iter().filter(has_row).collect() };
     if some.is_empty() || random.once_in(40) {
-        return random.pick(&[1, u64::MAX, ADDRESS]).wrapping_add(random.below(3));
+        return random.pick(&[0, 1, u64::MAX, ADDRESS]).wrapping_add(random.below(3));
     }
     let function = random.pick(&some);
     let inside: Vec<u32> = function.rows.iter().map(|row| row.start).filter(|&start| start < function.size).collect();
     let start = if inside.is_empty() { 0 } else { random.pick(&inside) };
-    let behind = random.below(2).min(u64::from(function.size.saturating_sub(start + 1)));
+    let last = u64::from(function.size.saturating_sub(start + 1));
+    let behind = if random.once_in(8) { last } else { random.below(2).min(last) };
     section.wrapping_add_signed(function.start).wrapping_add(u64::from(start) + behind)
+}
+
+// One behind such a PC, so that a later frame looks that PC up; where it was its function's last, this is behind the
+// function. Now and then such a PC itself.
+fn return_address(random: &mut Random, functions: &[Function], section: u64) -> u64 {
+    pc(random, functions, section).wrapping_add(u64::from(!random.once_in(6)))
 }
 
 fn word(random: &mut Random, functions: &[Function], section: u64, address: u64, length: usize) -> u64 {
@@ -174,7 +184,7 @@ fn word(random: &mut Random, functions: &[Function], section: u64, address: u64,
         0 => 0,
         1 => random.number(),
         2..=4 => near_stack(random, address, length),
-        _ => pc(random, functions, section),
+        _ => return_address(random, functions, section),
     }
 }
 

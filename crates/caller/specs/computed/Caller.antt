@@ -20,7 +20,7 @@ use Rattle.accept.specs.declared.verdict.Verdict.{Verdict}
 use Rattle.accept.specs.declared.verdict.Verdict.the-variants as verdict
 use Rattle.lookup.specs.Finding.{Finding, finds, refuses}
 use Rattle.lookup.specs.computed.Answers.{lookIn}
-use Rattle.caller.specs.Frame.{askedOf, cfaOf, callerSp}
+use Rattle.caller.specs.Frame.{hasMark, askedOf, cfaOf, callerSp}
 use Rattle.caller.specs.declared.place.Spot.{Spot}
 use Rattle.caller.specs.declared.place.Spot.the-variants.{Kept, Saved, Beyond}
 use Rattle.caller.specs.declared.place.Values.{Values}
@@ -33,10 +33,6 @@ use Rattle.caller.specs.declared.registers.Step.the-variants.{Caller, Un
 use Rattle.caller.specs.declared.registers.Where.{Where}
 
 -- ---- what is tested and read, in document 01's order
-
--- "a first-frame mark": any number but 0
-unfoldable pub hasMark : Registers → Bool
-hasMark registers = not (eqb (registers .first) 0)
 
 -- 24: "AArch64 and the row's signed bit is set."
 unfoldable pub isSigned : Shape → Row → Bool
@@ -88,7 +84,7 @@ unfoldable pub stepAfter : Registers → Verdict → Step → Step
 stepAfter registers verdict.Accepted next = next
 stepAfter registers (verdict.Refused number index) next = Unsound registers number index
 
--- "Lookup at PC.": what is found at the PC asked; where there is none, no function covers it
+-- "Lookup at PC.", the PC asked; "PC 0 without the mark is answered 21 .. with no lookup made": `look` is not asked
 unfoldable pub lookAt : (ℕ → Finding) → Asked → Finding
 lookAt look (At pc) = look pc
 lookAt look Nowhere = refuses 21

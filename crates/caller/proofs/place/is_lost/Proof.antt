@@ -1,7 +1,8 @@
 -- `place::is_lost`: RA in its register is lost where there is no mark.
 -- Assumes nothing.
 use borrow.Author.Needs.{needs}
-use Rattle.caller.specs.computed.Caller.{hasMark, isLost}
+use Rattle.caller.specs.Frame.{hasMark}
+use Rattle.caller.specs.computed.Caller.{isLost}
 use Rattle.caller.proofs.RegisterLaws.{twice-not}
 use Rattle.caller.proofs.place.is_lost.Statement.{statement}
 use Rattle.caller.proofs.place.is_lost.Tie as tie

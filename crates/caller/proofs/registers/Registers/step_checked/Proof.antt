@@ -1,4 +1,4 @@
--- `step_checked` looks PC up and steps from what is found; a section is known through that alone.
+-- `step_checked` looks the PC asked up, if there is one, and steps from what is found; a section is known through that alone.
 -- Assumes nothing.
 use borrow.Author.Needs.{needs}
 use Rattle.caller.proofs.LookedUpLaws.{nowhere-step, looked-up-step}
