@@ -473,6 +473,28 @@ fn as_aarch64(section: &[u8], meaning: &Meaning) -> Option<Meaning> {
     Some(Meaning { functions: functions(&other), ..meaning.clone() })
 }
 
+/// How each crash in vectors/last_calls ended by the rule of document 01, PC itself in every frame: the neighbour of the
+/// function that ends in a call has no frame of its own, so that the walk finds 0 on AMD64, and CFA at SP on AArch64.
+const BY_PC_ITSELF: [(&str, [(u64, u64); 2]); 2] =
+    [("ok_last_calls_amd64", [(2, 30), (2, 30)]), ("ok_last_calls_aarch64", [(1, 26), (1, 26)])];
+
+#[test]
+fn last_calls_were_blamed_on_the_neighbour() {
+    let itself = Ways { looked_up: |pc, _| Some(pc), ..RIGHT };
+    let cases = cases::all();
+    for (name, expected) in BY_PC_ITSELF {
+        let case = cases.iter().find(|case| case.name == name).expect("a stored case");
+        let meaning = Meaning::read(&case.section);
+        let ended = |ways: &Ways| -> Vec<(u64, u64)> {
+            let walks =
+                case.walks.iter().map(|(walk, _)| Scene { walk, meaning: &meaning, amd64: false, as_aarch64: None });
+            let traced = walks.map(|scene| ways.walked(&scene).traced);
+            traced.map(|traced| (traced.frames, traced.ending.number())).collect()
+        };
+        assert_eq!((ended(&itself), ended(&RIGHT)), (expected.to_vec(), vec![(3, 21); 2]), "{name}");
+    }
+}
+
 #[test]
 fn every_slip_is_noticed() {
     let (mut noticed, mut walks) = (vec![0; SLIPS.len()], 0);
