@@ -6,22 +6,21 @@ use mathlib.Core.List.{List}
 use mathlib.Core.Logic.{inl, inr, _↔_, ⊎-elim}
 use Prim.Native.Nat.{ℕ, zero, suc, _+_}
 use native.Mathlib.Omega.{arith}
-use lib.Dec.{eqb}
-use borrow.Author.Tests.{eqb-true, eqb-false}
 use Rattle.section.specs.declared.row.Base.{Base}
 use Rattle.section.specs.declared.row.Base.the-variants.{Fp, Sp}
 use Rattle.section.specs.declared.shape.Shape.{Shape}
 use Rattle.lookup.specs.Finding.{Finding}
-use Rattle.lookup.proofs.CoveringLaws.{by-value}
-use Rattle.caller.specs.Cases.{NoMark, Asks, AsksNothing, CfaIs, RowFound, CallerCase}
+use Rattle.caller.specs.Cases.{Asks, AsksNothing, CfaIs, RowFound, CallerCase}
 use Rattle.caller.specs.Frame.{justBefore, askedOf, baseValue, cfaOf}
-use Rattle.caller.specs.computed.Caller.{lookAt, withFinding, fromFinding, stepOf, stepIn}
+use Rattle.caller.specs.computed.Caller.{stepOf, stepIn}
 use Rattle.caller.specs.declared.registers.Asked.the-variants.{At, Nowhere}
 use Rattle.caller.specs.declared.registers.Registers.{Registers}
 use Rattle.caller.specs.declared.registers.Step.the-variants.{Caller, Refused}
 use Rattle.caller.specs.declared.registers.Where.{Where}
+use Rattle.caller.proofs.LookedUpLaws.{nowhere-refused}
 use Rattle.caller.proofs.RegisterLaws.{asked-unmarked, asked-marked}
-use Rattle.caller.proofs.StepLaws.{step-exactly-when}
+use Rattle.caller.proofs.StepLaws.{by-shown, step-exactly-when}
+use Rattle.caller.proofs.TestLaws.{mark-shows}
 
 -- ---- one before a PC
 
@@ -36,16 +35,11 @@ before-nowhere zero = (λ e. refl, λ e. refl)
 before-nowhere (suc from) = (λ e. absurd (let z : _≡_ {A = ℕ} 0 1 = cc in omega arith), λ e. absurd (omega arith))
 
 module _ (registers : Registers) where
-  -- go on by whether there is a mark
-  by-mark : {X : Type 0} → (NoMark registers → X) → (¬ NoMark registers → X) → X
-  by-mark none set =
-      by-value (eqb (registers .first) 0) (λ e. none (eqb-true (registers .first) 0 e)) (λ e. set (eqb-false (registers .first) 0 e))
-
   -- "without the first-frame mark, look up PC minus 1; with it, PC itself."
   pub asked-exactly-when : (pc : ℕ) → (askedOf registers ≡ At pc) ↔ Asks registers pc
   asked-exactly-when pc = (
     λ e.
-        by-mark (λ none. inr (none, before-at (registers .pc) pc .0 (asked-unmarked registers none ∙ e))) λ set.
+        by-shown (mark-shows registers) (λ none. inr (none, before-at (registers .pc) pc .0 (asked-unmarked registers none ∙ e))) λ set.
         let same : At (registers .pc) ≡ At pc = asked-marked registers set ∙ e in
         inl (set, cc),
     ⊎-elim
@@ -57,7 +51,7 @@ module _ (registers : Registers) where
   pub nowhere-exactly-when : (askedOf registers ≡ Nowhere) ↔ AsksNothing registers
   nowhere-exactly-when = (
     λ e.
-        by-mark (λ none. (none, before-nowhere (registers .pc) .0 (asked-unmarked registers none ∙ e))) λ set.
+        by-shown (mark-shows registers) (λ none. (none, before-nowhere (registers .pc) .0 (asked-unmarked registers none ∙ e))) λ set.
         let same : At (registers .pc) ≡ Nowhere = asked-marked registers set ∙ e in
         absurd (let z : _≡_ {A = ℕ} 0 1 = cc in omega arith),
     λ h. sym (asked-unmarked registers (h .0)) ∙ before-nowhere (registers .pc) .1 (h .1),
@@ -66,8 +60,7 @@ module _ (registers : Registers) where
   -- "is answered 21, .. with no lookup made": by whatever a lookup would find
   pub no-lookup : AsksNothing registers → (shape : Shape) (look : ℕ → Finding) (stack : List ℕ) (lies : Where)
       → stepOf shape look stack lies registers ≡ Refused registers 21
-  unfolding stepOf lookAt fromFinding withFinding
-  no-lookup nothing shape look stack lies = rw (nowhere-exactly-when .1 nothing)
+  no-lookup nothing = nowhere-refused registers (nowhere-exactly-when .1 nothing)
 
 -- ---- "The RA written stays as read."
 

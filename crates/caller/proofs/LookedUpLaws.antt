@@ -8,7 +8,7 @@ use Rattle.section.specs.Meaning.{shapeOf}
 use Rattle.section.specs.Shape.{shape}
 use Rattle.section.specs.declared.header.Layout.{Layout}
 use Rattle.section.specs.declared.shape.Shape.{Shape}
-use Rattle.lookup.specs.Finding.{findingOf}
+use Rattle.lookup.specs.Finding.{Finding, findingOf}
 use Rattle.lookup.specs.computed.Answers.{answerOf, lookIn}
 use Rattle.lookup.specs.inner.Requires.{AcceptedOf}
 use Rattle.lookup.specs.declared.answer.Answer.{Answer}
@@ -21,12 +21,16 @@ use Rattle.caller.specs.declared.registers.Step.{Step}
 use Rattle.caller.specs.declared.registers.Step.the-variants.{Refused}
 use Rattle.caller.specs.declared.registers.Where.{Where}
 
+-- where there is no PC to look up, whatever a lookup would find
+pub nowhere-refused : (registers : Registers) → askedOf registers ≡ Nowhere → (shape : Shape) (look : ℕ → Finding) (stack : List ℕ) (lies : Where)
+    → stepOf shape look stack lies registers ≡ Refused registers 21
+unfolding lookAt fromFinding withFinding stepOf
+nowhere-refused registers nowhere shape look stack lies = rw nowhere
+
 module _ (s stack : List ℕ) (lies : Where) (registers : Registers) where
-  -- where there is no PC to look up
   pub nowhere-step : {asked : Asked} → asked ≡ askedOf registers → asked ≡ Nowhere
       → Refused registers 21 ≡ stepOf (shapeOf s) (lookIn s (lies .section)) stack lies registers
-  unfolding lookAt fromFinding withFinding stepOf
-  nowhere-step is nowhere = rw (sym is ∙ nowhere)
+  nowhere-step is nowhere = sym (nowhere-refused registers (sym is ∙ nowhere) _ _ stack lies)
 
   pub looked-up-step : {layout : Layout} {asked : Asked} {pc : ℕ} {answer : Answer} {here : Shape} {step : Step}
       → AcceptedOf s layout → asked ≡ askedOf registers → asked ≡ At pc → answer ≡ answerOf s (lies .section) pc → here ≡ shape (layout .abi)

@@ -33,10 +33,11 @@ use Rattle.caller.specs.declared.registers.Step.{Step}
 use Rattle.caller.specs.declared.registers.Step.the-variants.{Caller, Unsound, Refused}
 use Rattle.caller.specs.declared.registers.Where.{Where}
 use Rattle.caller.proofs.FindingLaws.{finds-exactly-when, unfound-exactly-when, looked-up}
+use Rattle.caller.proofs.LookedUpLaws.{nowhere-refused}
 use Rattle.caller.proofs.TestLaws.{fits-shows, signed-shows, low-shows, lost-shows, in-memory, out-of-memory, memory-decided, value-given, no-value, value-decided}
 
 -- go on by whether a proposition that a test shows holds
-by-shown : {test : Bool} {P X : Type 0} → Shows test P → (P → X) → (¬ P → X) → X
+pub by-shown : {test : Bool} {P X : Type 0} → Shows test P → (P → X) → (¬ P → X) → X
 by-shown {test} d good bad = by-value test (λ e. good (d .holds e)) (λ e. bad (d .broken e))
 
 -- FP's word is outside, whatever RA's is
@@ -75,8 +76,9 @@ module _ (s stack : List ℕ) (lies : Where) (registers : Registers) where
 
   -- and there is no PC to ask
   nowhere-given : NothingAsked s stack lies registers → answer ≡ Refused registers 21
-  unfolding stepAfter stepOf lookAt fromFinding withFinding
-  nowhere-given h = fits-given (h .fits) ∙ rw (accepted-exactly-when s .1 (h .obeys)) (rw (h .asked))
+  unfolding stepAfter
+  nowhere-given h =
+      fits-given (h .fits) ∙ rw (accepted-exactly-when s .1 (h .obeys)) (nowhere-refused registers (h .asked) _ _ stack lies)
 
   none-given : (why : Unfound) → LookedUp s stack lies registers (λ d. UnfoundCase s d why) → answer ≡ Refused registers (numberOfUnfound why)
   unfolding fromFinding withFinding

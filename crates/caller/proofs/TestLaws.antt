@@ -51,7 +51,7 @@ pub signed-shows : (shape : Shape) (row : Row) → Shows (isSigned shape row) (R
 unfolding isSigned
 signed-shows shape row = both (is-set (shape .signs)) (is-set (row .signed))
 
-mark-shows : (registers : Registers) → Shows (not (hasMark registers)) (NoMark registers)
+pub mark-shows : (registers : Registers) → Shows (not (hasMark registers)) (NoMark registers)
 unfolding hasMark
 mark-shows registers = twice (equal _ _)
 
