@@ -54,7 +54,7 @@ static APART NEVER_RETURNS void third(int value) {
 }
 
 /* Its last instruction is the call, since nothing comes back from it: the return address is the first byte behind this
- * function, where another one begins. */
+ * function. As GCC lays it out here, another one begins there; clang fills up to the next multiple of 16. */
 static APART NEVER_RETURNS void last(int value) {
     volatile int kept[20];
     NOTE_RETURN(IN_LAST);

@@ -428,6 +428,7 @@ static void last_calls(void) {
     const suntimpani_step by_entry = {{0x7038, 0x7008, 0x7000, 0, 0}, 0, 0};
     const suntimpani_step by_frame = {{0x401044, 0x7010, 0x7038, 0, 0}, 0, 0};
     const suntimpani_step none = {{0, 0, 0, 0, 0}, 21, 0}, no_row = {{0, 0, 0, 0, 0}, 23, 0};
+    const suntimpani_step flags = {{0, 0, 0, 0, 0}, 5, 0};
     const suntimpani_answer neighbour = {0, 1, 0, 1, 0, 0, 1, 8, 1, -8, 0, 0, 0};
     const uint64_t top = 0 - (uint64_t)0x1020;
     uint8_t adjacent[78], late[78], repeated[78], below[78];
@@ -457,6 +458,7 @@ static void last_calls(void) {
     compare_call("PC 0 without the mark", below, 0x1000, 0, 0, none);
     compare_call("PC 2^64 - 1", S, top, UINT64_MAX, 1, by_frame);
     compare_call("PC 0 does not wrap", S, top, 0, 0, none);
+    compare_call("PC 0 after the section's checks", changed(3, 8), ADDRESS, 0, 0, flags);
 }
 
 /* AArch64, little-endian, one function of 16 bytes at 0x1000 with three rows: from 0 on SP + 0, from 4 on SP + 16, both

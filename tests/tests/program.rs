@@ -136,6 +136,20 @@ fn the_cases_of_document_01_are_answered() {
     }
 }
 
+// With 21 and 23 what was looked up, with the mark and without; and that there was nothing to look up.
+#[test]
+fn what_was_looked_up_is_told() {
+    let folder = Folder::of("looked_up");
+    let cases = cases::all();
+    let names = ["ok_S_as_it_is", "ok_S_late", "ok_S_below", "ok_last_calls_amd64", "ok_last_calls_aarch64"];
+    let walks = names.map(|name| case_named(&cases, name)).into_iter().flat_map(|case| &case.walks);
+    let told: String = walks.map(|(_, walked)| words::step(&walked.step)).collect();
+    assert!(["looked up: 0000000000401020", "looked up: nothing"].iter().all(|line| told.contains(line)), "{told}");
+    for case in names.map(|name| case_named(&cases, name)) {
+        case.walks.iter().for_each(|(one, _)| walk(&folder, &case.section, one));
+    }
+}
+
 // The first case of every number that a section is refused with; 2 is longer than what the program reads.
 #[test]
 fn every_refusal_of_a_section_is_told() {

@@ -20,4 +20,4 @@ aarch64-holds = (refl, (refl, (refl, (refl, (refl, (refl, tt))))))
 pub last-calls-hold : Holds ours lastCallTable
 unfolding traceOpened sectionS atEntry ours replyTo loaded at agreed adjacentS lateS repeatedS belowS callWindow called ofCall lyingAt byEntry byFrame lastCallTable
 last-calls-hold =
-    (refl, (refl, (refl, (refl, (refl, (refl, (refl, (refl, (refl, (refl, (refl, (refl, (refl, (refl, (refl, (refl, tt))))))))))))))))
+    (refl, (refl, (refl, (refl, (refl, (refl, (refl, (refl, (refl, (refl, (refl, (refl, (refl, (refl, (refl, (refl, (refl, tt)))))))))))))))))

@@ -199,10 +199,13 @@ lastCallTable =
     -- at the first byte of a repeated block: o is the last of the block before, 15
     ∷ agreed repeatedS (ofCall 0x401010 0) byFrame
     ∷ agreed repeatedS (ofCall 0x401010 1) byEntry
-    -- "PC 0 without the mark": though a function covers PC 0, or 2^64 - 1; "after the section checks", and those after 41
+    -- "PC 0 without the mark": though a function covers PC 0, or 2^64 - 1; "after the section checks", and those after 41, here of a
+    -- window of 64 bytes that ends at 2^64 + 1
     ∷ agreed belowS (lyingAt 0x1000 0 1) byEntry
     ∷ agreed belowS (lyingAt 0x1000 0 0) (aStep (step.Refused (called 0 0) 21))
     ∷ agreed sectionS (lyingAt (2 ^ 64 - 0x1020) (2 ^ 64 - 1) 1) byFrame
     ∷ agreed sectionS (lyingAt (2 ^ 64 - 0x1020) 0 0) (aStep (step.Refused (called 0 0) 21))
     ∷ agreed (take 77 sectionS) (ofCall 0 0) (aStep (step.Unsound (called 0 0) 8 0))
+    ∷ agreed (take 77 sectionS) (askCaller callWindow (record { section = 0x400000; stack = 2 ^ 64 - 63 }) (called 0 0))
+    (aStep (step.Refused (called 0 0) 41))
     ∷ []

@@ -36,8 +36,8 @@ fn ground(machine: Machine) -> Ground {
     Ground::of(machine, section)
 }
 
-/// At every start and end of a function, a row and a block, one before and one behind: where the function before ends,
-/// where nobody stands before, where no row starts so early, where the block before ends.
+/// At starts and ends of functions, rows and blocks, and beside them: where the function before ends, where nobody
+/// stands before, where no row starts so early, where the block before ends.
 #[rustfmt::skip]
 const EDGES: [i64; 32] = [
     0x0fff, 0x1000, 0x1001, 0x1007, 0x1008, 0x1009, 0x103c, 0x103d, 0x103f, 0x1040, 0x1041, 0x1044, 0x1045, 0x105f,
@@ -172,7 +172,8 @@ const BY_ENTRY: [u64; 3] = [0x7008, 0x7038, 0x7000];
 const BY_FRAME: [u64; 3] = [0x7010, 0x40_1044, 0x7038];
 
 impl Stated {
-    // A trace of one frame begins with the mark, whatever the step's is, so that it is stated for the mark alone.
+    // A trace begins with the mark, whatever the step's is: without it the limit is too high, so that the trace says
+    // nothing of the step's PC.
     fn walk(&self) -> Expected {
         let mut stack = vec![0; 64];
         stack[..8].copy_from_slice(&0x7038_u64.to_le_bytes());
@@ -198,9 +199,9 @@ impl Stated {
 mod tests {
     use super::*;
 
-    // Every edge is told apart by the mark somewhere, and every number that a lookup gives comes.
+    // At some of the edges the mark decides; and a caller, 21 and 23 come with it and without.
     #[test]
-    fn the_mark_decides_and_each_number_comes() {
+    fn the_mark_decides_and_callers_21_and_23_come() {
         for machine in Machine::ALL {
             let ground = ground(machine);
             let numbers = |first| {
