@@ -38,6 +38,32 @@
  * the section.
  *
  *
+ * Signed return addresses
+ *
+ * On AArch64 a program may sign its return addresses (pointer authentication): bits that a user's address leaves 0 then
+ * hold a signature, and a row says so by its signed bit. `mask` of suntimpani_process has these bits. A caller and a
+ * trace clear them from RA where the row has the signed bit, whether RA was a word of the stack or LR. What is left is
+ * the caller's PC and the word written, and the walk goes on from it. A row without the bit leaves RA as it was read,
+ * AMD64 always does, and nothing but RA is ever cleared. What to pass on Linux:
+ *
+ *     a process under ptrace    insn_mask of struct user_pac_mask (<asm/ptrace.h>), which PTRACE_GETREGSET gives for
+ *                               NT_ARM_PAC_MASK (0x406, <elf.h>)
+ *     a core file               the same, the second of the two words in its note of that type
+ *     the own process           every bit above those of a user's address: 0xffff000000000000 where it has 48, and
+ *                               0xffffff8000000000 where it has 39; the stack lies at their top, and so tells
+ *     nothing is known          0: a row with the signed bit is refused with 24
+ *
+ * A process cannot trace itself, and need not know which of the bits above an address the signature takes: the others
+ * are 0 in a user's address, also bit 55, which tells it from the kernel's. On a processor that does not sign ptrace
+ * gives no mask and a core file has no such note, while rows say signed all the same. The bits above an address are 0
+ * there, so that they are right as a mask too, where 0 would be refused.
+ *
+ * The mask is taken as it comes, like the addresses: nothing tells that it is wrong. With too few bits a part of the
+ * signature stays in RA, which then mostly lies in no function, and a trace ends with 21. With too many, bits of the
+ * address go, and RA is another address: mostly in no function either, but where it lies in one, the trace goes on
+ * wrongly. With every bit set RA of a signed row is 0, and a trace ends there with 30.
+ *
+ *
  * Numbers
  *
  * Every answer has a number: 0 where what was asked for is given, else the rule that is the first broken one, in this
@@ -75,9 +101,10 @@
  *     22  two or more functions cover it
  *     23  one function covers it, and none of its rows starts at or below it
  *
- * By caller and trace, on the registers and the stack. CFA is the value of SP in the caller, RA the return address:
+ * By caller and trace, on the registers, the stack and the mask. CFA is the value of SP in the caller, RA the return
+ * address:
  *
- *     24  the return address is signed (AArch64)
+ *     24  the return address is signed (AArch64), and the mask is 0
  *     25  CFA is outside 0 to 2^64 - 1
  *     26  CFA is below SP, or equal to SP without the first-frame mark
  *     27  RA has no place: the row leaves it in LR, and only the first frame has it there (AArch64)
@@ -86,7 +113,7 @@
  *
  * By trace alone. 42 and 43 are tried right after 41, before the section; 30 and 31 are how a whole trace ends:
  *
- *     30  the last frame's RA is 0: it is the outermost frame
+ *     30  the last frame's RA is 0, cleared of the mask's bits where it is signed: it is the outermost frame
  *     31  the limit is full, and the last frame's RA is not 0
  *     42  the limit is above 256
  *     43  the buffer has fewer than 3 words for each frame of the limit
@@ -95,10 +122,10 @@
  * Example: walk from the registers of a crash, at most 64 frames, and print what was found.
  *
  *     uint64_t words[3 * 64];
- *     suntimpani_where where = { section_address, stack_address };
+ *     suntimpani_process process = { section_address, stack_address, 0 };
  *     suntimpani_registers crash = { pc, sp, fp, 0, 1 };
  *     suntimpani_traced traced =
- *         suntimpani_trace(section, length, stack, stack_length, where, crash, 64, words, 3 * 64);
+ *         suntimpani_trace(section, length, stack, stack_length, process, crash, 64, words, 3 * 64);
  *     for (uint64_t frame = 0; frame < traced.frames; frame++) {
  *         printf("CFA %" PRIx64 ", returns to %" PRIx64 "\n", words[3 * frame], words[3 * frame + 1]);
  *     }
@@ -111,7 +138,7 @@
 #include <stdint.h>
 
 /* The version of this header and of the archive beside it. */
-#define SUNTIMPANI_VERSION "0.3.0"
+#define SUNTIMPANI_VERSION "0.4.0"
 
 #ifdef __cplusplus
 extern "C" {
@@ -181,11 +208,13 @@ typedef struct {
     uint64_t signed_ra; /* 1 where RA is signed (AArch64), otherwise 0 */
 } suntimpani_answer;
 
-/* Where the lent bytes lie in the memory of the program that crashed, which need not be this one. */
+/* What is known of the process that crashed, which need not be this one, beside its registers. Each field may have any
+ * value; on AMD64 `mask` makes no difference. */
 typedef struct {
-    uint64_t section_address; /* of the section's first byte */
-    uint64_t stack_address;   /* of the stack window's first byte, the lowest address */
-} suntimpani_where;
+    uint64_t section_address; /* of the section's first byte in its memory */
+    uint64_t stack_address;   /* of the stack window's first byte there, the lowest address */
+    uint64_t mask;            /* AArch64: the bits of a return address that hold its signature; 0: not known */
+} suntimpani_process;
 
 /* Registers; each may have any value. On AMD64 they are RIP, RSP and RBP, and `lr` is not read. */
 typedef struct {
@@ -245,19 +274,21 @@ suntimpani_row suntimpani_next_row(const uint8_t *section, size_t length, suntim
 suntimpani_answer suntimpani_lookup(const uint8_t *section, size_t length, uint64_t address, uint64_t pc);
 
 /* One caller. Hand `first` in as 1 for the registers of the crash, and take the answer's registers for the next step:
- * their `first` is 0. PC itself is looked up with `first`, and PC - 1 where it is 0; the caller's PC is RA as it was
- * read all the same. On a refusal the registers come back exactly as they were, `first` included. */
+ * their `first` is 0. PC itself is looked up with `first`, and PC - 1 where it is 0. The caller's PC is RA all the
+ * same: as it was read, or on a signed row with the mask's bits cleared. On a refusal the registers come back exactly
+ * as they were, `first` included. */
 suntimpani_step suntimpani_caller(const uint8_t *section, size_t length, const uint8_t *stack, size_t stack_length,
-                                  suntimpani_where where, suntimpani_registers registers);
+                                  suntimpani_process process, suntimpani_registers registers);
 
 /* The whole trace from the registers of the crash, whatever their `first`. Limit 0 means 64; otherwise it is 1 to 256.
  *
  * The buffer has at least 3 words of 64 bits for each frame of the limit: 192 for limit 0, 768 for 256. `words` is how
- * many it has. Frame i is words 3i, 3i + 1 and 3i + 2: CFA, RA and the caller's FP. RA is as it was read, and may be
- * the first byte behind the function that called, so that the next frame is found at RA - 1. Every word behind the
- * frames that the answer counts keeps what it held; after 1 to 15 and 41 to 43 that is every word. */
+ * many it has. Frame i is words 3i, 3i + 1 and 3i + 2: CFA, RA and the caller's FP. RA is as it was read, or on a
+ * signed row with the mask's bits cleared. It may be the first byte behind the function that called, so that the next
+ * frame is found at RA - 1. Every word behind the frames that the answer counts keeps what it held; after 1 to 15 and
+ * 41 to 43 that is every word. */
 suntimpani_traced suntimpani_trace(const uint8_t *section, size_t length, const uint8_t *stack, size_t stack_length,
-                                   suntimpani_where where, suntimpani_registers registers, uint64_t limit,
+                                   suntimpani_process process, suntimpani_registers registers, uint64_t limit,
                                    uint64_t *buffer, size_t words);
 
 #ifdef __cplusplus

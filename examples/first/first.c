@@ -77,10 +77,11 @@ static int place(uint64_t index) {
 static int walk(void) {
     enum { LIMIT = 64 };
     uint64_t words[3 * LIMIT], frame;
-    suntimpani_where where = {SECTION_ADDRESS, STACK_ADDRESS};
+    /* The mask is for signed return addresses, which there are on AArch64 alone. */
+    suntimpani_process process = {SECTION_ADDRESS, STACK_ADDRESS, 0};
     suntimpani_registers crash = {0x401044, 0x7000, 0x7030, 0, 1};
     suntimpani_traced traced =
-        suntimpani_trace(section, sizeof section, stack, sizeof stack, where, crash, LIMIT, words, 3 * LIMIT);
+        suntimpani_trace(section, sizeof section, stack, sizeof stack, process, crash, LIMIT, words, 3 * LIMIT);
     printf("frame  CFA               RA                FP\n");
     for (frame = 0; frame < traced.frames; frame++) {
         printf("%5" PRIu64 "  %016" PRIx64 "  %016" PRIx64 "  %016" PRIx64 "\n", frame, words[3 * frame],

@@ -50,8 +50,9 @@ static int write_run(const crash *seen) {
     if (file < 0) {
         return 0;
     }
-    say_named(file, "section_address", (uint64_t)(uintptr_t)seen->section.bytes);
-    say_named(file, "stack_address", (uint64_t)(uintptr_t)seen->stack.bytes);
+    say_named(file, "section_address", seen->process.section_address);
+    say_named(file, "stack_address", seen->process.stack_address);
+    say_named(file, "mask", seen->process.mask);
     say_named(file, "pc", seen->registers.pc);
     say_named(file, "sp", seen->registers.sp);
     say_named(file, "fp", seen->registers.fp);

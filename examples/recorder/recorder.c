@@ -179,7 +179,6 @@ static void take_registers(const mcontext_t *at_fault) {
 
 static void on_fault(int signal_number, siginfo_t *info, void *context) {
     static uint64_t words[3 * LIMIT];
-    suntimpani_where where;
     suntimpani_traced traced;
     int recorded;
     (void)signal_number;
@@ -189,14 +188,27 @@ static void on_fault(int signal_number, siginfo_t *info, void *context) {
     /* The stack window ends where main's caller begins: nothing above belongs to a frame of this program. */
     seen.stack.bytes = (const uint8_t *)seen.registers.sp;
     seen.stack.length = seen.expected[IN_MAIN].cfa - seen.registers.sp;
-    where.section_address = (uint64_t)(uintptr_t)seen.section.bytes;
-    where.stack_address = seen.registers.sp;
-    traced = suntimpani_trace(seen.section.bytes, seen.section.length, seen.stack.bytes, seen.stack.length, where,
-                              seen.registers, LIMIT, words, 3 * LIMIT);
+    seen.process.section_address = (uint64_t)(uintptr_t)seen.section.bytes;
+    seen.process.stack_address = seen.registers.sp;
+    traced = suntimpani_trace(seen.section.bytes, seen.section.length, seen.stack.bytes, seen.stack.length,
+                              seen.process, seen.registers, LIMIT, words, 3 * LIMIT);
     say_trace(traced, words);
     recorded = record();
     _exit(is_as_expected(traced, words) && recorded ? 0 : 1);
 }
+
+/* The bits that may hold the signature of a return address: all above those of a user's address, which are 0 in it. A
+ * program's stack lies at the top of the user's addresses, so that one in it has their highest bit. */
+#if defined(__aarch64__)
+static uint64_t signature_bits(const void *in_stack) {
+    return ~(UINT64_MAX >> __builtin_clzll((uint64_t)(uintptr_t)in_stack));
+}
+#else
+static uint64_t signature_bits(const void *in_stack) {
+    (void)in_stack;
+    return 0;
+}
+#endif
 
 /* The handler gets a stack of its own: a crash may have used up the other. */
 static int prepare_handler(void) {
@@ -245,6 +257,7 @@ int main(int count, char **words) {
     seen.expected[IN_MAIN].cfa = (uint64_t)(uintptr_t)__builtin_dwarf_cfa();
     seen.expected[IN_MAIN].fp = *pointed;
     NOTE_RETURN(IN_MAIN);
+    seen.process.mask = signature_bits(pointed);
     why_not = why_not_ready(count, words);
     if (why_not != NULL) {
         fprintf(stderr, "recorder: %s\n", why_not);

@@ -28,6 +28,7 @@ enum { LIMIT = 64, OUTSIDE = 21 };
 /* All that is lent to the library for a trace, and what this program knows of its frames by itself. */
 typedef struct {
     lent_bytes section, stack;
+    suntimpani_process process;
     suntimpani_registers registers;
     frame expected[FRAMES];
 } crash;

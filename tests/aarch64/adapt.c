@@ -7,7 +7,7 @@
  * form in the module, which the script holds it to. */
 #include "suntimpani.h"
 
-_Static_assert(sizeof(suntimpani_where) == 16, "byval 16");
+_Static_assert(sizeof(suntimpani_process) == 24, "byval 24");
 _Static_assert(sizeof(suntimpani_rows) == 32, "byval 32");
 _Static_assert(sizeof(suntimpani_registers) == 40, "byval 40");
 
@@ -56,26 +56,26 @@ suntimpani_answer suntimpani_lookup(const uint8_t *section, size_t length, uint6
     return answer;
 }
 
-/* Of the module: ptr suntimpani_caller(ptr, ptr, i64, ptr, i64, byval 16, byval 40) */
+/* Of the module: ptr suntimpani_caller(ptr, ptr, i64, ptr, i64, byval 24, byval 40) */
 void *proved_suntimpani_caller(suntimpani_step *step, const uint8_t *section, size_t length, const uint8_t *stack,
-                               size_t stack_length, suntimpani_where *where, suntimpani_registers *registers);
+                               size_t stack_length, suntimpani_process *process, suntimpani_registers *registers);
 
 suntimpani_step suntimpani_caller(const uint8_t *section, size_t length, const uint8_t *stack, size_t stack_length,
-                                  suntimpani_where where, suntimpani_registers registers) {
+                                  suntimpani_process process, suntimpani_registers registers) {
     suntimpani_step step;
-    proved_suntimpani_caller(&step, section, length, stack, stack_length, &where, &registers);
+    proved_suntimpani_caller(&step, section, length, stack, stack_length, &process, &registers);
     return step;
 }
 
-/* Of the module: ptr suntimpani_trace(ptr, ptr, i64, ptr, i64, byval 16, byval 40, i64, ptr, i64) */
+/* Of the module: ptr suntimpani_trace(ptr, ptr, i64, ptr, i64, byval 24, byval 40, i64, ptr, i64) */
 void *proved_suntimpani_trace(suntimpani_traced *traced, const uint8_t *section, size_t length, const uint8_t *stack,
-                              size_t stack_length, suntimpani_where *where, suntimpani_registers *registers,
+                              size_t stack_length, suntimpani_process *process, suntimpani_registers *registers,
                               uint64_t limit, uint64_t *buffer, size_t words);
 
 suntimpani_traced suntimpani_trace(const uint8_t *section, size_t length, const uint8_t *stack, size_t stack_length,
-                                   suntimpani_where where, suntimpani_registers registers, uint64_t limit,
+                                   suntimpani_process process, suntimpani_registers registers, uint64_t limit,
                                    uint64_t *buffer, size_t words) {
     suntimpani_traced traced;
-    proved_suntimpani_trace(&traced, section, length, stack, stack_length, &where, &registers, limit, buffer, words);
+    proved_suntimpani_trace(&traced, section, length, stack, stack_length, &process, &registers, limit, buffer, words);
     return traced;
 }

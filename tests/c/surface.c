@@ -1,5 +1,6 @@
-/* The C surface, called from C: the layout of every struct, K1 to K12 of document 01 and its examples on AArch64, the
- * functions and rows of sections accepted and refused, every field of every answer and every word of the buffers.
+/* The C surface, called from C: the layout of every struct, K1 to K12 of document 01 and its examples on AArch64,
+ * signed return addresses under masks, the functions and rows of sections accepted and refused, every field of every
+ * answer and every word of the buffers.
  * Prints 'N comparisons, 0 differences', or each difference and ends with status 1. Compiles as C99 and as C++11. */
 #include <inttypes.h>
 #include <stddef.h>
@@ -151,9 +152,10 @@ static void layout_of_the_others(void) {
     compare("suntimpani_verdict", "its size", sizeof(suntimpani_verdict), 2 * 8);
     PLACE(suntimpani_verdict, number, 0);
     PLACE(suntimpani_verdict, index, 1);
-    compare("suntimpani_where", "its size", sizeof(suntimpani_where), 2 * 8);
-    PLACE(suntimpani_where, section_address, 0);
-    PLACE(suntimpani_where, stack_address, 1);
+    compare("suntimpani_process", "its size", sizeof(suntimpani_process), 3 * 8);
+    PLACE(suntimpani_process, section_address, 0);
+    PLACE(suntimpani_process, stack_address, 1);
+    PLACE(suntimpani_process, mask, 2);
     compare("suntimpani_registers", "its size", sizeof(suntimpani_registers), 5 * 8);
     PLACE(suntimpani_registers, pc, 0);
     PLACE(suntimpani_registers, sp, 1);
@@ -362,7 +364,7 @@ static void rows_of_refused_sections(void) {
 
 /* "PC 0x401044, SP 0x7000, FP 0x7030; stack at 0x7000, 64 bytes, all zero but the word 0x401008 at 0x7000". */
 static const suntimpani_registers START = {0x401044, 0x7000, 0x7030, 0x5555, 1};
-static const suntimpani_where LIES = {ADDRESS, 0x7000};
+static const suntimpani_process PROCESS = {ADDRESS, 0x7000, 0};
 static const uint8_t STACK[64] = {0x08, 0x10, 0x40};
 
 #define HELD UINT64_C(0xa5a5a5a5a5a5a5a5)
@@ -372,8 +374,7 @@ static void compare_trace(const char *what, const uint8_t *section, size_t stack
                           suntimpani_traced wanted, const uint64_t *words) {
     uint64_t buffer[8] = {HELD, HELD, HELD, HELD, HELD, HELD, HELD, HELD};
     size_t word;
-    suntimpani_traced got =
-        suntimpani_trace(section, 78, STACK, stack_length, LIES, START, limit, buffer, lent);
+    suntimpani_traced got = suntimpani_trace(section, 78, STACK, stack_length, PROCESS, START, limit, buffer, lent);
     compare_traced(what, got, wanted);
     for (word = 0; word < 8; word++) {
         compare(what, "a word of the buffer", buffer[word], words[word]);
@@ -397,14 +398,14 @@ static void k10_to_k12(void) {
 
 static void steps(void) {
     const suntimpani_registers marked = {0x401044, 0x7000, 0x7030, 0x5555, 7};
-    const suntimpani_where high = {ADDRESS, UINT64_MAX};
+    const suntimpani_process high = {ADDRESS, UINT64_MAX, 0};
     const suntimpani_step caller = {{0x401008, 0x7008, 0x7030, 0x5555, 0}, 0, 0};
     const suntimpani_step outermost = {{0, 0x7040, 0, 0x5555, 0}, 0, 0};
     const suntimpani_step unsound = {{0x401044, 0x7000, 0x7030, 0x5555, 7}, 14, 1};
     const suntimpani_step past_the_end = {{0x401044, 0x7000, 0x7030, 0x5555, 7}, 41, 0};
-    compare_steps("the first step of K10", suntimpani_caller(S, 78, STACK, 64, LIES, marked), caller);
-    compare_steps("the second", suntimpani_caller(S, 78, STACK, 64, LIES, caller.registers), outermost);
-    compare_steps("a step in K8", suntimpani_caller(overlapping(1), 78, STACK, 64, LIES, marked), unsound);
+    compare_steps("the first step of K10", suntimpani_caller(S, 78, STACK, 64, PROCESS, marked), caller);
+    compare_steps("the second", suntimpani_caller(S, 78, STACK, 64, PROCESS, caller.registers), outermost);
+    compare_steps("a step in K8", suntimpani_caller(overlapping(1), 78, STACK, 64, PROCESS, marked), unsound);
     compare_steps("a stack past 2^64", suntimpani_caller(S, 78, STACK, 64, high, marked), past_the_end);
 }
 
@@ -412,14 +413,14 @@ static void steps(void) {
 static void compare_call(const char *what, const uint8_t *section, uint64_t address, uint64_t pc, uint64_t first,
                          suntimpani_step wanted) {
     static const uint8_t stack[16] = {0x38, 0x70, 0, 0, 0, 0, 0, 0, 0x44, 0x10, 0x40, 0, 0, 0, 0, 0};
-    const suntimpani_where lies = {address, 0x7000};
+    const suntimpani_process process = {address, 0x7000, 0};
     suntimpani_registers registers = {0, 0x7000, 0x7000, 0, 0};
     registers.pc = pc;
     registers.first = first;
     if (wanted.number > 0) {
         wanted.registers = registers;
     }
-    compare_steps(what, suntimpani_caller(section, 78, stack, 16, lies, registers), wanted);
+    compare_steps(what, suntimpani_caller(section, 78, stack, 16, process, registers), wanted);
 }
 
 /* PC itself is looked up with the mark, PC - 1 without it. The rows of S lead to different callers: CFA is SP + 8, or
@@ -483,9 +484,180 @@ static void examples_on_aarch64(void) {
     const suntimpani_step no_place = {{0x401005, 0x7000, 0x7030, 0x401005, 0}, 27, 0};
     compare_answers("a signed row", suntimpani_lookup(ON_AARCH64, 59, ADDRESS, 0x40100f), signed_row);
     compare_answers("a leaf's row", suntimpani_lookup(ON_AARCH64, 59, ADDRESS, 0x401004), leaf_row);
-    compare_steps("first, offset 0", suntimpani_caller(ON_AARCH64, 59, NULL, 0, LIES, first), caller);
-    compare_steps("later, offset 0", suntimpani_caller(ON_AARCH64, 59, NULL, 0, LIES, later), same_cfa);
-    compare_steps("later, offset 16", suntimpani_caller(ON_AARCH64, 59, NULL, 0, LIES, caller.registers), no_place);
+    compare_steps("first, offset 0", suntimpani_caller(ON_AARCH64, 59, NULL, 0, PROCESS, first), caller);
+    compare_steps("later, offset 0", suntimpani_caller(ON_AARCH64, 59, NULL, 0, PROCESS, later), same_cfa);
+    compare_steps("later, offset 16", suntimpani_caller(ON_AARCH64, 59, NULL, 0, PROCESS, caller.registers), no_place);
+}
+
+/* AArch64, little-endian, one function of 20 bytes at 0x1000 with five rows: from 0 on SP + 16 with RA in LR, from 4 on
+ * SP + 32 with RA at CFA - 8, both signed; from 8 on as from 4 on, and from 12 on as from 0 on, not signed; from 16 on
+ * FP + 32 with RA at CFA - 24 and FP at CFA - 32, signed. */
+static const uint8_t SIGNED[67] = {
+    0xe2, 0xde, 0x02, 0x01, 0x02, 0x00, 0x00, 0x00, 0x01, 0x00, 0x00, 0x00, 0x05, 0x00, 0x00, 0x00,
+    0x13, 0x00, 0x00, 0x00, 0x00, 0x00, 0x00, 0x00, 0x14, 0x00, 0x00, 0x00,
+    0x00, 0x10, 0x00, 0x00, 0x14, 0x00, 0x00, 0x00, 0x00, 0x00, 0x00, 0x00, 0x05, 0x00, 0x00, 0x00,
+    0x00, 0x00, 0x00, 0x00,
+    0x00, 0x83, 0x10, 0x04, 0x85, 0x20, 0xf8, 0x08, 0x05, 0x20, 0xf8, 0x0c, 0x03, 0x10, 0x10, 0x86,
+    0x20, 0xe8, 0xe0,
+};
+
+/* Ten words from 0x7000 on, and a mask with the bits from 48 to 54, of which some words have a few. */
+static const uint8_t SIGNED_STACK[80] = {
+    0x00, 0x00, 0x00, 0x00, 0x00, 0x00, 0x00, 0x00, 0x00, 0x00, 0x00, 0x00, 0x00, 0x00, 0x00, 0x00,
+    0x00, 0x00, 0x00, 0x00, 0x00, 0x00, 0x00, 0x00, 0x08, 0x10, 0x40, 0x00, 0x00, 0x00, 0x00, 0x00,
+    0x50, 0x70, 0x00, 0x00, 0x00, 0x00, 0x44, 0x00, 0x0c, 0x10, 0x40, 0x00, 0x00, 0x00, 0x2a, 0x00,
+    0x00, 0x00, 0x00, 0x00, 0x00, 0x00, 0x00, 0x00, 0x00, 0x00, 0x00, 0x00, 0x00, 0x00, 0x33, 0x00,
+    0x00, 0x00, 0x00, 0x00, 0x00, 0x00, 0x00, 0x00, 0x08, 0x10, 0x40, 0x00, 0x00, 0x00, 0x11, 0x00,
+};
+#define MASK UINT64_C(0x007f000000000000)
+#define SIGNED_LR UINT64_C(0x0055000000401008)
+#define SIGNED_WORD UINT64_C(0x002a00000040100c)
+
+/* At the first byte of SIGNED, where RA is in LR; and behind a call before byte 8, where RA is the word at 0x7028. */
+static const suntimpani_registers IN_LR = {0x401000, 0x7000, 0x7030, SIGNED_LR, 1};
+static const suntimpani_registers IN_WORD = {0x401008, 0x7010, 0x7030, SIGNED_LR, 0};
+
+/* A step under a mask. */
+static suntimpani_step step_by(uint64_t mask, suntimpani_registers registers) {
+    const suntimpani_process process = {ADDRESS, 0x7000, mask};
+    return suntimpani_caller(SIGNED, 67, SIGNED_STACK, 80, process, registers);
+}
+
+/* The mask's bits go from RA of a signed row and from nothing else: CFA, FP and LR keep theirs. */
+static void compare_cleared(const char *what, uint64_t mask, suntimpani_registers registers, uint64_t cfa,
+                            uint64_t ra) {
+    suntimpani_step wanted = {{0, 0, 0x7030, SIGNED_LR, 0}, 0, 0};
+    wanted.registers.pc = ra;
+    wanted.registers.sp = cfa;
+    compare_steps(what, step_by(mask, registers), wanted);
+}
+
+static void signed_steps(void) {
+    const suntimpani_verdict accepted = {0, 0};
+    const suntimpani_registers plain_lr = {0x40100c, 0x7000, 0x7030, SIGNED_LR, 1};
+    const suntimpani_registers plain_word = {0x401008, 0x7010, 0x7030, SIGNED_LR, 1};
+    compare_verdicts("signed rows, a check", suntimpani_check(SIGNED, 67), accepted);
+    compare_cleared("a signed LR", MASK, IN_LR, 0x7010, 0x401008);
+    compare_cleared("a signed LR, two bits", UINT64_C(0x0040000000000008), IN_LR, 0x7010, UINT64_C(0x0015000000401000));
+    compare_cleared("a signed LR, a bit that it has not", UINT64_C(1) << 63, IN_LR, 0x7010, SIGNED_LR);
+    compare_cleared("a signed LR, every bit", UINT64_MAX, IN_LR, 0x7010, 0);
+    compare_cleared("a signed word", MASK, IN_WORD, 0x7030, 0x40100c);
+    compare_cleared("a signed word, all but three bits", UINT64_MAX - 7, IN_WORD, 0x7030, 4);
+    compare_cleared("a signed word, every bit", UINT64_MAX, IN_WORD, 0x7030, 0);
+    compare_cleared("an LR that is not signed", UINT64_MAX, plain_lr, 0x7010, SIGNED_LR);
+    compare_cleared("a word that is not signed", UINT64_MAX, plain_word, 0x7030, SIGNED_WORD);
+    compare_cleared("an LR that is not signed, no mask", 0, plain_lr, 0x7010, SIGNED_LR);
+    compare_cleared("a word that is not signed, no mask", 0, plain_word, 0x7030, SIGNED_WORD);
+}
+
+/* FP's word has bits of the mask too, and keeps them. */
+static void saved_fp_beside_signed_ra(void) {
+    const suntimpani_registers registers = {0x401010, 0x7000, 0x7020, SIGNED_LR, 1};
+    const suntimpani_step caller = {{0x40100c, 0x7040, UINT64_C(0x0044000000007050), SIGNED_LR, 0}, 0, 0};
+    compare_steps("a saved FP", step_by(MASK, registers), caller);
+}
+
+/* What a step is refused with under mask 0, and under another. */
+static void compare_refused(const char *what, suntimpani_registers registers, uint64_t by_none, uint64_t by_mask) {
+    suntimpani_step wanted = {{0, 0, 0, 0, 0}, 0, 0};
+    wanted.registers = registers;
+    wanted.number = by_none;
+    compare_steps(what, step_by(0, registers), wanted);
+    wanted.number = by_mask;
+    compare_steps(what, step_by(MASK, registers), wanted);
+}
+
+/* 24 is given under mask 0 alone, behind 21 and before all that follows. */
+static void signed_refusals(void) {
+    const suntimpani_step in_lr = {{0x401000, 0x7000, 0x7030, SIGNED_LR, 1}, 24, 0};
+    const suntimpani_step in_word = {{0x401008, 0x7010, 0x7030, SIGNED_LR, 0}, 24, 0};
+    const suntimpani_registers no_function = {0x401014, 0x7000, 0x7030, SIGNED_LR, 1};
+    const suntimpani_registers high = {0x401000, UINT64_MAX, 0x7030, SIGNED_LR, 1};
+    const suntimpani_registers low = {0x401010, 0x7000, 0x6000, SIGNED_LR, 1};
+    const suntimpani_registers no_mark = {0x401001, 0x7000, 0x7030, SIGNED_LR, 0};
+    const suntimpani_registers no_word = {0x401004, 0x7031, 0x7030, SIGNED_LR, 1};
+    compare_steps("a signed LR, no mask", step_by(0, IN_LR), in_lr);
+    compare_steps("a signed word, no mask", step_by(0, IN_WORD), in_word);
+    compare_refused("behind the function", no_function, 21, 21);
+    compare_refused("signed, and CFA past 2^64", high, 24, 25);
+    compare_refused("signed, and CFA below SP", low, 24, 26);
+    compare_refused("signed in LR, without the mark", no_mark, 24, 27);
+    compare_refused("signed, and its word outside", no_word, 24, 28);
+}
+
+/* A trace of at most 4 frames under a mask, and what all 12 words hold afterwards. */
+static void compare_signed_trace(const char *what, uint64_t mask, suntimpani_registers registers,
+                                 suntimpani_traced wanted, const uint64_t *words) {
+    const suntimpani_process process = {ADDRESS, 0x7000, mask};
+    uint64_t buffer[12], word;
+    for (word = 0; word < 12; word++) {
+        buffer[word] = HELD;
+    }
+    compare_traced(what, suntimpani_trace(SIGNED, 67, SIGNED_STACK, 80, process, registers, 4, buffer, 12), wanted);
+    for (word = 0; word < 12; word++) {
+        compare(what, "a word of the buffer", buffer[word], word < 3 * wanted.frames ? words[word] : HELD);
+    }
+}
+
+/* From IN_LR: RA is in LR, signed; a word, signed; a word that is not, which keeps its bits and so lies nowhere. */
+static void signed_traces(void) {
+    const uint64_t three[9] = {0x7010, 0x401008, 0x7030, 0x7030, 0x40100c, 0x7030,
+                               0x7050, UINT64_C(0x0011000000401008), 0x7030};
+    const uint64_t zero[3] = {0x7010, 0, 0x7030}, part[3] = {0x7010, UINT64_C(0x0054000000401008), 0x7030};
+    const suntimpani_traced nowhere = {3, 21, 0}, refused = {0, 24, 0}, outermost = {1, 30, 0}, lost = {1, 21, 0};
+    compare_signed_trace("a signed trace", MASK, IN_LR, nowhere, three);
+    compare_signed_trace("a signed trace, no mask", 0, IN_LR, refused, NULL);
+    compare_signed_trace("a signed trace, every bit", UINT64_MAX, IN_LR, outermost, zero);
+    compare_signed_trace("a signed trace, too few bits", UINT64_C(1) << 48, IN_LR, lost, part);
+}
+
+/* From byte 8: RA is a word that is not signed; then one that is, and is 0 but for its signature. */
+static void signed_later(void) {
+    const suntimpani_registers at_8 = {0x401008, 0x7000, 0x7030, SIGNED_LR, 1};
+    const uint64_t two[6] = {0x7020, 0x401008, 0x7030, 0x7040, 0, 0x7030};
+    const uint64_t part[6] = {0x7020, 0x401008, 0x7030, 0x7040, UINT64_C(0x0032000000000000), 0x7030};
+    const suntimpani_traced outermost = {2, 30, 0}, refused = {1, 24, 0}, lost = {2, 21, 0};
+    compare_signed_trace("signed later", MASK, at_8, outermost, two);
+    compare_signed_trace("signed later, no mask", 0, at_8, refused, two);
+    compare_signed_trace("signed later, too few bits", UINT64_C(1) << 48, at_8, lost, part);
+}
+
+/* The bits go before 1 is taken away: 0x40100d comes to 0x401008, and the row before byte 8 is signed. */
+static void cleared_before_it_is_asked(void) {
+    const suntimpani_registers odd = {0x401000, 0x7000, 0x7030, 0x40100d, 1};
+    const uint64_t words[6] = {0x7010, 0x401008, 0x7030, 0x7030, UINT64_C(0x002a000000401008), 0x7030};
+    const suntimpani_traced lost = {2, 21, 0};
+    compare_signed_trace("the low bits", 5, odd, lost, words);
+}
+
+/* On AMD64 neither the mask nor bit 7 of a row's info makes a difference. */
+static void masks_on_amd64(void) {
+    const suntimpani_process masked = {ADDRESS, 0x7000, UINT64_MAX};
+    const suntimpani_step caller = {{0x401008, 0x7008, 0x7030, 0x5555, 0}, 0, 0};
+    const suntimpani_traced outermost = {2, 30, 0};
+    const uint64_t words[6] = {0x7008, 0x401008, 0x7030, 0x7040, 0, 0};
+    uint64_t buffer[6] = {HELD, HELD, HELD, HELD, HELD, HELD}, word;
+    compare_steps("AMD64, bit 7", suntimpani_caller(changed(76, 0x83), 78, STACK, 64, PROCESS, START), caller);
+    compare_steps("AMD64, bit 7 and every bit", suntimpani_caller(changed(76, 0x83), 78, STACK, 64, masked, START),
+                  caller);
+    compare_traced("K10 with every bit", suntimpani_trace(S, 78, STACK, 64, masked, START, 2, buffer, 6), outermost);
+    for (word = 0; word < 6; word++) {
+        compare("K10 with every bit", "a word of the buffer", buffer[word], words[word]);
+    }
+}
+
+/* A program that sets the two addresses alone, as before there was a mask; -Wextra would have it name the third. */
+#pragma GCC diagnostic push
+#pragma GCC diagnostic ignored "-Wmissing-field-initializers"
+static const suntimpani_process TWO_FIELDS = {ADDRESS, 0x7000};
+#pragma GCC diagnostic pop
+
+static void two_fields(void) {
+    const suntimpani_step caller = {{0x401008, 0x7008, 0x7030, 0x5555, 0}, 0, 0};
+    const suntimpani_step refused = {{0x401000, 0x7000, 0x7030, SIGNED_LR, 1}, 24, 0};
+    compare("two fields", "the mask", TWO_FIELDS.mask, 0);
+    compare_steps("two fields", suntimpani_caller(S, 78, STACK, 64, TWO_FIELDS, START), caller);
+    compare_steps("two fields, signed", suntimpani_caller(SIGNED, 67, SIGNED_STACK, 80, TWO_FIELDS, IN_LR), refused);
 }
 
 /* Nothing is read or written through a pointer whose length is 0. */
@@ -504,11 +676,11 @@ static void null_pointers(void) {
     compare_places("no section, the rows", suntimpani_rows_of(NULL, 0, 0), no_rows);
     compare_rows("no section, a row", suntimpani_next_row(NULL, 0, rows), no_row);
     compare_answers("no section, a lookup", suntimpani_lookup(NULL, 0, ADDRESS, 0x401003), unsound);
-    compare_steps("no section, a step", suntimpani_caller(NULL, 0, NULL, 0, LIES, START), refused);
-    compare_steps("no stack, a step", suntimpani_caller(S, 78, NULL, 0, LIES, START), outside);
-    compare_traced("no buffer", suntimpani_trace(S, 78, STACK, 64, LIES, START, 2, NULL, 0), no_room);
-    compare_traced("no section, a trace", suntimpani_trace(NULL, 0, NULL, 0, LIES, START, 2, buffer, 6), no_section);
-    compare_traced("no stack, a trace", suntimpani_trace(S, 78, NULL, 0, LIES, START, 2, buffer, 6), no_stack);
+    compare_steps("no section, a step", suntimpani_caller(NULL, 0, NULL, 0, PROCESS, START), refused);
+    compare_steps("no stack, a step", suntimpani_caller(S, 78, NULL, 0, PROCESS, START), outside);
+    compare_traced("no buffer", suntimpani_trace(S, 78, STACK, 64, PROCESS, START, 2, NULL, 0), no_room);
+    compare_traced("no section, a trace", suntimpani_trace(NULL, 0, NULL, 0, PROCESS, START, 2, buffer, 6), no_section);
+    compare_traced("no stack, a trace", suntimpani_trace(S, 78, NULL, 0, PROCESS, START, 2, buffer, 6), no_stack);
 }
 
 int main(void) {
@@ -530,6 +702,14 @@ int main(void) {
     steps();
     last_calls();
     examples_on_aarch64();
+    signed_steps();
+    saved_fp_beside_signed_ra();
+    signed_refusals();
+    signed_traces();
+    signed_later();
+    cleared_before_it_is_asked();
+    masks_on_amd64();
+    two_fields();
     null_pointers();
     printf("%lu comparisons, %lu differences\n", comparisons, differences);
     return differences == 0 ? 0 : 1;

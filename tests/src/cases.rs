@@ -29,6 +29,7 @@ mod recorded;
 mod relative;
 mod rows;
 mod runs;
+pub(crate) mod signed;
 mod sizes;
 mod starts;
 mod step_order;
@@ -39,7 +40,7 @@ mod windows;
 pub use corpus::{corpus_section, CORPUS, CORPUS_VERDICTS};
 pub use document::S;
 pub use questions::Question;
-pub use recorded::LAST_CALL_RUNS;
+pub use recorded::{LAST_CALL_RUNS, SIGNED_SECTIONS};
 
 use crate::maker::{Function, Machine, Row, Section, SORTED};
 use crate::reader::{Header, Verdict};
@@ -131,6 +132,9 @@ pub fn all() -> Vec<Case> {
         last_calls::all(),
         chains::returned(),
         recorded::last_calls(),
+        signed::all(),
+        corpus_walks::signed(),
+        recorded::signed(),
     ];
     let mut cases: Vec<Case> = groups.into_iter().flatten().collect();
     ask_of_refused(&mut cases);

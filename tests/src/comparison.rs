@@ -186,9 +186,9 @@ fn rows_by_reader(section: &[u8], checked: Option<&reader::Checked>, index: u64)
 
 // Every field of both answers, and every word of the buffer.
 fn compare_walk(section: &[u8], stack: &[u8], words: &mut [u64], walk: &Walk, expected: &Walked) -> Result<(), String> {
-    let step = LIBRARY.step(section, stack, walk.lies, walk.registers);
+    let step = LIBRARY.step(section, stack, walk.process, walk.registers);
     same(step, library::Step::of(&expected.step), || format!("the step, {walk:x?}"))?;
-    let traced = LIBRARY.trace(section, stack, walk.lies, walk.registers, walk.limit, words);
+    let traced = LIBRARY.trace(section, stack, walk.process, walk.registers, walk.limit, words);
     same(traced, library::Traced::of(&expected.traced), || format!("the trace, {walk:x?}"))?;
     same(&words[..], &expected.words[..], || format!("the words, {walk:x?}"))
 }

@@ -24,6 +24,8 @@ pub struct ShownFunction {
     pub pc: i64,
     pub size: u32,
     pub repeated: bool,
+    /// It signs by key B; nothing is shown of key A.
+    pub key_b: bool,
     /// The rows' lines; those of other versions of the format have words of their own.
     pub rows: Vec<String>,
 }
@@ -118,14 +120,15 @@ fn shown_functions(text: &str) -> Vec<ShownFunction> {
     shown
 }
 
-// "401000, size = 71 bytes", and for some functions more behind a comma.
+// "401000, size = 71 bytes", and for some functions more behind a comma, such as "pauth = B key".
 fn shown_function(facts: &str) -> ShownFunction {
     let (pc, rest) = facts.split_once(", size = ").expect("a pc and a size");
-    let (size, _) = rest.split_once(" bytes").expect("a size in bytes");
+    let (size, more) = rest.split_once(" bytes").expect("a size in bytes");
     ShownFunction {
         pc: i64::from_str_radix(pc, 16).expect("a hexadecimal pc"),
         size: size.parse().expect("a decimal size"),
         repeated: false,
+        key_b: more.contains("B key"),
         rows: Vec::new(),
     }
 }

@@ -5,7 +5,7 @@
 use crate::cases::{Case, Question};
 use crate::maker::{FirstRow, Function, Machine, Row, Section, SORTED};
 use crate::obvious::{described, halvings_of};
-use crate::reader::{Answer, Ending, Outcome, Registers, Step, Verdict, Where};
+use crate::reader::{Answer, Ending, Outcome, Process, Registers, Step, Verdict};
 use crate::stream::Random;
 use crate::walk::{Walk, Walked};
 use crate::ADDRESS;
@@ -54,7 +54,8 @@ fn walk(verdict: Verdict) -> (Walk, Walked) {
     let registers = Registers { pc: pc_of(LAST), sp: 0x7000, fp: 0x7777, lr: 0, first: 1 };
     let ra = pc_of(0) + 1;
     let stack = [ra, 0].map(u64::to_le_bytes).concat();
-    let walk = Walk { lies: Where { section: ADDRESS, stack: 0x7000 }, registers, stack, limit: 0, words: 192 };
+    let walk =
+        Walk { process: Process { section: ADDRESS, stack: 0x7000, mask: 0 }, registers, stack, limit: 0, words: 192 };
     let walked = match verdict {
         Verdict::Refused { number, index } => {
             let step = Step::Unsound { old: registers, number, index };

@@ -79,9 +79,10 @@ pub struct Answer {
 }
 
 #[repr(C)]
-struct Where {
+struct Process {
     section_address: u64,
     stack_address: u64,
+    mask: u64,
 }
 
 #[repr(C)]
@@ -125,7 +126,7 @@ extern "C" {
         length: usize,
         stack: *const u8,
         stack_length: usize,
-        lies: Where,
+        process: Process,
         registers: Registers,
     ) -> Step;
     fn suntimpani_trace(
@@ -133,7 +134,7 @@ extern "C" {
         length: usize,
         stack: *const u8,
         stack_length: usize,
-        lies: Where,
+        process: Process,
         registers: Registers,
         limit: u64,
         buffer: *mut u64,
@@ -149,8 +150,8 @@ pub struct Calls {
     rows_of: unsafe extern "C" fn(*const u8, usize, u64) -> Rows,
     next_row: unsafe extern "C" fn(*const u8, usize, Rows) -> Row,
     lookup: unsafe extern "C" fn(*const u8, usize, u64, u64) -> Answer,
-    caller: unsafe extern "C" fn(*const u8, usize, *const u8, usize, Where, Registers) -> Step,
-    trace: unsafe extern "C" fn(*const u8, usize, *const u8, usize, Where, Registers, u64, *mut u64, usize) -> Traced,
+    caller: unsafe extern "C" fn(*const u8, usize, *const u8, usize, Process, Registers) -> Step,
+    trace: unsafe extern "C" fn(*const u8, usize, *const u8, usize, Process, Registers, u64, *mut u64, usize) -> Traced,
 }
 
 /// The calls of the proved library.
@@ -206,10 +207,10 @@ impl Calls {
 
     /// The step, every field as it came.
     #[inline]
-    pub fn step(&self, section: &[u8], stack: &[u8], lies: reader::Where, registers: reader::Registers) -> Step {
-        let (lies, registers) = (Where::of(lies), Registers::of(registers));
+    pub fn step(&self, section: &[u8], stack: &[u8], process: reader::Process, registers: reader::Registers) -> Step {
+        let (process, registers) = (Process::of(process), Registers::of(registers));
         // SAFETY: both pointers and lengths are those of slices, which are lent for the length of the call.
-        unsafe { (self.caller)(section.as_ptr(), section.len(), stack.as_ptr(), stack.len(), lies, registers) }
+        unsafe { (self.caller)(section.as_ptr(), section.len(), stack.as_ptr(), stack.len(), process, registers) }
     }
 
     /// The trace, every field as it came.
@@ -218,23 +219,24 @@ impl Calls {
         &self,
         section: &[u8],
         stack: &[u8],
-        lies: reader::Where,
+        process: reader::Process,
         registers: reader::Registers,
         limit: u64,
         buffer: &mut [u64],
     ) -> Traced {
-        let (lies, registers) = (Where::of(lies), Registers::of(registers));
+        let (process, registers) = (Process::of(process), Registers::of(registers));
         let (section_at, stack_at, buffer_at) = (section.as_ptr(), stack.as_ptr(), buffer.as_mut_ptr());
         let (length, stack_length, words) = (section.len(), stack.len(), buffer.len());
         // SAFETY: the pointers and lengths are those of slices, lent for the length of the call; no other is the
         // buffer's.
-        unsafe { (self.trace)(section_at, length, stack_at, stack_length, lies, registers, limit, buffer_at, words) }
+        unsafe { (self.trace)(section_at, length, stack_at, stack_length, process, registers, limit, buffer_at, words) }
     }
 }
 
-impl Where {
-    fn of(lies: reader::Where) -> Where {
-        Where { section_address: lies.section, stack_address: lies.stack }
+impl Process {
+    fn of(process: reader::Process) -> Process {
+        let reader::Process { section, stack, mask } = process;
+        Process { section_address: section, stack_address: stack, mask }
     }
 }
 

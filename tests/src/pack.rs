@@ -3,20 +3,20 @@
 //! A case is a head of 66 bytes, the section's bytes, 16 bytes for each question, and the walks. The head is the name
 //! padded with spaces to 38, and behind a space each, as 8 decimal digits, the section's length, the number of
 //! questions and the number of bytes of all walks, and a newline. A question is the section's address and the PC, each
-//! 8 bytes little-endian. A walk is ten such words: section address, stack address, PC, SP, FP, LR, the mark, the
-//! limit, the number of words in the lent buffer and the length of the stack; and then the stack's bytes. Cases follow
-//! each other with nothing between, and so do walks.
+//! 8 bytes little-endian. A walk is eleven such words: section address, stack address, mask, PC, SP, FP, LR, the mark,
+//! the limit, the number of words in the lent buffer and the length of the stack; and then the stack's bytes. Cases
+//! follow each other with nothing between, and so do walks.
 //!
 //! What is expected is text: a line a case, below it a line a question, then for each walk a line of what is lent, one
-//! of the step's answer, one of the trace's, and one a frame.
+//! of the step's answer, one of the trace's, and one a frame. A mask is told only where it is not 0.
 #![forbid(unsafe_code)]
 
-use crate::reader::{Answer, Ending, Registers, Step, Traced, Verdict};
+use crate::reader::{Answer, Ending, Process, Registers, Step, Traced, Verdict};
 use crate::walk::{Walk, Walked};
 
 const NAME_BYTES: usize = 38;
 const HEAD_BYTES: usize = 66;
-const WALK_BYTES: usize = 80;
+const WALK_BYTES: usize = 88;
 
 /// A pack is smaller than this many bytes.
 pub const LIMIT: usize = 2_000_000;
@@ -56,8 +56,9 @@ pub fn put_case(pack: &mut Vec<u8>, name: &str, section: &[u8], questions: &[(u6
 
 fn put_walk(pack: &mut Vec<u8>, walk: &Walk) {
     let Registers { pc, sp, fp, lr, first } = walk.registers;
+    let Process { section, stack, mask } = walk.process;
     let (words, bytes) = (walk.words as u64, walk.stack.len() as u64);
-    for word in [walk.lies.section, walk.lies.stack, pc, sp, fp, lr, first, walk.limit, words, bytes] {
+    for word in [section, stack, mask, pc, sp, fp, lr, first, walk.limit, words, bytes] {
         pack.extend(word.to_le_bytes());
     }
     pack.extend(&walk.stack);
@@ -75,9 +76,8 @@ pub fn answer_line(address: u64, pc: u64, answer: &Answer) -> String {
 
 /// What is expected of a walk, as lines of text.
 pub fn walk_lines(walk: &Walk, walked: &Walked) -> String {
-    let (from, lies, bytes) = (registers(&walk.registers), walk.lies, walk.stack.len());
-    let places = format!("section {:016x} stack {:016x}", lies.section, lies.stack);
-    let mut text = format!("  from {from} {places} bytes {bytes} limit {} words {}\n", walk.limit, walk.words);
+    let (from, process, bytes) = (registers(&walk.registers), process(&walk.process), walk.stack.len());
+    let mut text = format!("  from {from} {process} bytes {bytes} limit {} words {}\n", walk.limit, walk.words);
     text += &format!("    {}\n", step(&walked.step));
     text += &format!("    {} kept {}\n", traced(&walked.traced), walked.kept());
     for [cfa, ra, fp] in walked.frames() {
@@ -89,6 +89,15 @@ pub fn walk_lines(walk: &Walk, walked: &Walked) -> String {
 fn registers(registers: &Registers) -> String {
     let Registers { pc, sp, fp, lr, first } = registers;
     format!("{pc:016x} {sp:016x} {fp:016x} {lr:016x} {first:016x}")
+}
+
+fn process(process: &Process) -> String {
+    let Process { section, stack, mask } = process;
+    let places = format!("section {section:016x} stack {stack:016x}");
+    match mask {
+        0 => places,
+        _ => format!("{places} mask {mask:016x}"),
+    }
 }
 
 fn step(step: &Step) -> String {
@@ -110,7 +119,7 @@ fn traced(traced: &Traced) -> String {
 #[cfg(test)]
 mod tests {
     use super::*;
-    use crate::reader::{Base, Outcome, Place, Row, Where};
+    use crate::reader::{Base, Outcome, Place, Row};
 
     #[test]
     fn a_case_is_its_head_its_bytes_and_its_questions() {
@@ -128,19 +137,37 @@ mod tests {
 
     fn a_walk(stack: &[u8]) -> Walk {
         let registers = Registers { pc: 0x40_1044, sp: 0x7000, fp: u64::MAX, lr: 4, first: 0x100 };
-        let lies = Where { section: 0x40_0000, stack: 0x6ff8 };
-        Walk { lies, registers, stack: stack.to_vec(), limit: 2, words: 7 }
+        let process = Process { section: 0x40_0000, stack: 0x6ff8, mask: 0 };
+        Walk { process, registers, stack: stack.to_vec(), limit: 2, words: 7 }
+    }
+
+    fn with_mask(walk: Walk, mask: u64) -> Walk {
+        Walk { process: Process { mask, ..walk.process }, ..walk }
     }
 
     #[test]
-    fn a_walk_is_ten_words_and_its_stack() {
+    fn a_walk_is_eleven_words_and_its_stack() {
         let mut pack = Vec::new();
-        put_case(&mut pack, "walked", &[9], &[], &[&a_walk(&[1, 2, 3]), &a_walk(&[])]);
-        let head = &b"walked                                 00000001 00000000 00000163\n\x09"[..];
+        let masked = with_mask(a_walk(&[]), 0xff7f_0000_0000_0000);
+        put_case(&mut pack, "walked", &[9], &[], &[&a_walk(&[1, 2, 3]), &masked]);
+        let head = &b"walked                                 00000001 00000000 00000179\n\x09"[..];
         assert_eq!(&pack[..head.len()], head);
-        let words = [0x40_0000, 0x6ff8, 0x40_1044, 0x7000, u64::MAX, 4, 0x100, 2, 7].map(u64::to_le_bytes).concat();
-        let walks = [&words[..], &3_u64.to_le_bytes(), &[1, 2, 3], &words, &0_u64.to_le_bytes()].concat();
+        let words = |mask, bytes| [0x40_0000, 0x6ff8, mask, 0x40_1044, 0x7000, u64::MAX, 4, 0x100, 2, 7, bytes];
+        let packed = |words: [u64; 11]| words.map(u64::to_le_bytes).concat();
+        let walks = [&packed(words(0, 3))[..], &[1, 2, 3], &packed(words(0xff7f_0000_0000_0000, 0))].concat();
         assert_eq!(&pack[head.len()..], walks);
+    }
+
+    // Every stored walk from before there were masks keeps its line.
+    #[test]
+    fn a_mask_is_told_where_it_is_not_0() {
+        let walk = a_walk(&[]);
+        let walked = walk.stated(Step::Refused { old: walk.registers, number: 41 }, &[], Ending::Refused(41));
+        let lines = |mask| walk_lines(&with_mask(walk.clone(), mask), &walked);
+        let told = |mask: &str| lines(0).replace("6ff8 bytes", &format!("6ff8 {mask} bytes"));
+        assert!(lines(0).contains(" stack 0000000000006ff8 bytes 0 ") && !lines(0).contains("mask"), "{}", lines(0));
+        assert_eq!(lines(1), told("mask 0000000000000001"));
+        assert_eq!(lines(u64::MAX - 15), told("mask fffffffffffffff0"));
     }
 
     #[test]

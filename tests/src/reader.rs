@@ -12,7 +12,7 @@ mod lookup;
 mod rows;
 mod trace;
 
-pub use caller::{step, Registers, Step, Where};
+pub use caller::{step, Process, Registers, Step};
 pub use listing::{function_at, listing, FunctionAt, Line};
 pub use lookup::{lookup, Answer, Checked, Outcome};
 pub use rows::{next_row, rows_of, NextRow, RowsAt};

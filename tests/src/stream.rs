@@ -322,7 +322,8 @@ fn with_another_length(random: &mut Random, mut section: Vec<u8>) -> Vec<u8> {
 mod tests {
     use super::*;
     use crate::obvious::{self, described, Meaning};
-    use crate::reader::{self, Verdict};
+    use crate::reader::{self, Process, Verdict};
+    use crate::walk::Walk;
     use std::collections::BTreeMap;
 
     fn sections(seed: u64, count: usize) -> impl Iterator<Item = Vec<u8>> {
@@ -392,6 +393,23 @@ mod tests {
         for number in (21..=28).chain([30, 31, 41, 42, 43]) {
             assert!(traces.get(&number).is_some_and(|&count| count >= 50), "{number}: {traces:?}");
         }
+    }
+
+    // By how many frames a trace goes farther than it would with mask 0, which ends it at the first signed row.
+    #[test]
+    fn masks_lead_through_signed_rows() {
+        let (mut random, mut farther) = (Random::new(7), BTreeMap::<u64, u32>::new());
+        for _ in 0..4_000 {
+            let section = walkable(&mut random);
+            for walk in walks(&mut random, &section).into_iter().filter(|walk| walk.process.mask != 0) {
+                let unmasked = Walk { process: Process { mask: 0, ..walk.process }, ..walk.clone() };
+                let [with, without] = [walk, unmasked].map(|walk| walk.by_reader(&section).traced.frames);
+                *farther.entry(with.checked_sub(without).expect("no mask takes a frame away")).or_default() += 1;
+            }
+        }
+        println!("how often a trace goes so many frames farther by its mask: {farther:?}");
+        let at_least = |frames| farther.range(frames..).map(|(_, count)| count).sum::<u32>();
+        assert!(at_least(1) >= 1_000 && at_least(4) >= 100, "{farther:?}");
     }
 
     #[test]

@@ -2,11 +2,11 @@
 #![forbid(unsafe_code)]
 
 use crate::obvious::{self, Meaning};
-use crate::reader::{self, Ending, Registers, Step, Traced, Where};
+use crate::reader::{self, Ending, Process, Registers, Step, Traced};
 
 #[derive(Clone, Debug, PartialEq, Eq)]
 pub struct Walk {
-    pub lies: Where,
+    pub process: Process,
     pub registers: Registers,
     pub stack: Vec<u8>,
     pub limit: u64,
@@ -35,15 +35,15 @@ pub fn lent(words: usize) -> Vec<u64> {
 impl Walk {
     pub fn by_reader(&self, section: &[u8]) -> Walked {
         let mut words = lent(self.words);
-        let step = reader::step(section, &self.stack, self.lies, self.registers);
-        let traced = reader::trace(section, &self.stack, self.lies, self.registers, self.limit, &mut words);
+        let step = reader::step(section, &self.stack, self.process, self.registers);
+        let traced = reader::trace(section, &self.stack, self.process, self.registers, self.limit, &mut words);
         Walked { step, traced, words }
     }
 
     pub fn by_definition(&self, meaning: &Meaning) -> Walked {
         let mut words = lent(self.words);
-        let step = obvious::step(meaning, &self.stack, self.lies, self.registers);
-        let traced = obvious::trace(meaning, &self.stack, self.lies, self.registers, self.limit, &mut words);
+        let step = obvious::step(meaning, &self.stack, self.process, self.registers);
+        let traced = obvious::trace(meaning, &self.stack, self.process, self.registers, self.limit, &mut words);
         Walked { step, traced, words }
     }
 

@@ -19,8 +19,8 @@ pub const COMMANDS: [(&str, &str); 7] = [
     ("check", "FILE"),
     ("list", "FILE [INDEX]"),
     ("lookup", "FILE ADDRESS PC"),
-    ("caller", "FILE ADDRESS STACK STACK_ADDRESS PC SP FP LR FIRST"),
-    ("trace", "FILE ADDRESS STACK STACK_ADDRESS PC SP FP LR LIMIT"),
+    ("caller", "FILE ADDRESS STACK STACK_ADDRESS PC SP FP LR FIRST [MASK]"),
+    ("trace", "FILE ADDRESS STACK STACK_ADDRESS PC SP FP LR LIMIT [MASK]"),
     ("help", ""),
     ("version", ""),
 ];
@@ -47,7 +47,7 @@ const WORDS: [(u64, &str); 28] = [
     (21, "no function covers the PC"),
     (22, "two or more functions cover the PC"),
     (23, "no row of the function starts at or below the PC"),
-    (24, "the return address is signed"),
+    (24, "the return address is signed, and no mask says by which bits"),
     (25, "CFA is outside 0 to 2^64 - 1"),
     (26, "CFA is below SP, or equal to it without the first-frame mark"),
     (27, "RA has no place: only the first frame has it in LR"),
@@ -308,8 +308,13 @@ mod tests {
     fn wrong_arguments_are_told_by_their_names() {
         assert_eq!(wrong::count("list"), "sframe: 'list' takes FILE [INDEX]\n");
         assert_eq!(wrong::count("help"), "sframe: 'help' takes no arguments\n");
+        let walk = "FILE ADDRESS STACK STACK_ADDRESS PC SP FP LR";
+        assert_eq!(wrong::count("caller"), format!("sframe: 'caller' takes {walk} FIRST [MASK]\n"));
+        assert_eq!(wrong::count("trace"), format!("sframe: 'trace' takes {walk} LIMIT [MASK]\n"));
         let address = "sframe: ADDRESS is not a hexadecimal number of 1 to 16 digits: 'xyz'\n";
         assert_eq!(wrong::number("ADDRESS", "xyz"), address);
+        let mask = "sframe: MASK is not a hexadecimal number of 1 to 16 digits: '-1'\n";
+        assert_eq!(wrong::number("MASK", "-1"), mask);
         let limit = "sframe: LIMIT is not a decimal number of 1 to 19 digits: '0x10'\n";
         assert_eq!(wrong::number("LIMIT", "0x10"), limit);
         let index = "sframe: INDEX is not a decimal number of 1 to 19 digits: ''\n";
@@ -327,7 +332,8 @@ mod tests {
         assert_eq!(told(Ending::Refused(42)), "refused: 42, the limit is above 256\n");
         let unsound = "refused: 10, an entry has repeated blocks of size 0, in function 4\n";
         assert_eq!(told(Ending::Unsound { number: 10, index: 4 }), unsound);
-        assert_eq!(step(&Step::Refused { old, number: 24 }), "refused: 24, the return address is signed\n");
+        let signed = "refused: 24, the return address is signed, and no mask says by which bits\n";
+        assert_eq!(step(&Step::Refused { old, number: 24 }), signed);
     }
 
     // The PC of the registers is another than the one that was looked up where they have no mark.

@@ -2,7 +2,7 @@
 
 use std::collections::BTreeSet;
 use std::fs;
-use suntimpani_tests::cases::{corpus_section, CORPUS_VERDICTS, LAST_CALL_RUNS};
+use suntimpani_tests::cases::{corpus_section, CORPUS_VERDICTS, LAST_CALL_RUNS, SIGNED_SECTIONS};
 use suntimpani_tests::dump::Dump;
 use suntimpani_tests::in_repository;
 use suntimpani_tests::reader::{check, functions, lookup, Block, Header, Outcome, Verdict};
@@ -153,5 +153,25 @@ fn the_sections_with_last_calls_are_as_shown() {
         let found = functions(&corpus_section(&name));
         assert_eq!(found.len(), 8);
         dump.compare(&name, &found);
+    }
+}
+
+// The sections of functions that sign their return addresses: vectors/signed. The key is a bit of the entry's info byte
+// that no answer depends on, and so the reader does not have it.
+#[test]
+fn the_sections_with_signatures_are_as_shown() {
+    for name in SIGNED_SECTIONS {
+        let file = format!("../../signed/{name}");
+        let dump = Dump::of(&file).expect("a dump");
+        let section = corpus_section(&file);
+        let found = functions(&section);
+        dump.compare(&file, &found);
+        let signed = found.iter().map(|function| function.rows.iter().filter(|row| row.signed).count());
+        assert_eq!(signed.collect::<Vec<_>>(), [0, 5, 3, 3, 0], "{name}");
+        let key_b = (0..found.len()).map(|index| section[28 + 20 * index + 16] & 0x20 != 0).collect::<Vec<_>>();
+        let shown: Vec<bool> = dump.functions.iter().map(|function| function.key_b).collect();
+        assert_eq!(key_b, shown, "{name}");
+        let signs_by_b = name.starts_with("key_b");
+        assert_eq!(shown, [false, signs_by_b, signs_by_b, signs_by_b, false], "{name}");
     }
 }

@@ -5,6 +5,7 @@ use std::collections::BTreeSet;
 use std::fs;
 use std::process::Command;
 use suntimpani_tests::cases::{self, corpus_section, Case, CORPUS_VERDICTS, S};
+use suntimpani_tests::maker::{Function, Machine, Row, Section};
 use suntimpani_tests::program::{counted, text, Folder};
 use suntimpani_tests::reader::{self, Base, Outcome, Place, Verdict};
 use suntimpani_tests::walk::Walk;
@@ -35,18 +36,21 @@ fn lookup(folder: &Folder, section: &[u8], address: u64, pc: u64) {
     folder.answers(&["lookup", "section", &given(address), &given(pc)], &expected);
 }
 
-// A caller and a trace. The program lends its own buffer, which has room for every limit; a limit of more digits than
-// it takes would be too high anyway.
+// A caller and a trace; a mask of 0 is left out. The program lends its own buffer, which has room for every limit; a
+// limit of more digits than it takes would be too high anyway.
 fn walk(folder: &Folder, section: &[u8], walk: &Walk) {
     let walk = Walk { words: 768, limit: walk.limit.min(MOST_DECIMAL), ..walk.clone() };
-    let (walked, lies, from) = (walk.by_reader(section), walk.lies, walk.registers);
+    let (walked, process, from) = (walk.by_reader(section), walk.process, walk.registers);
     folder.put("section", section);
     folder.put("stack", &walk.stack);
     let numbers = [from.pc, from.sp, from.fp, from.lr].map(given);
     let [pc, sp, fp, lr] = numbers.each_ref().map(String::as_str);
-    let (address, stack_address) = (given(lies.section), given(lies.stack));
-    let (first, limit) = (given(from.first), counted(walk.limit));
-    let arguments = |command, last| [command, "section", &address, "stack", &stack_address, pc, sp, fp, lr, last];
+    let (address, stack_address) = (given(process.section), given(process.stack));
+    let (first, limit, mask) = (given(from.first), counted(walk.limit), given(process.mask));
+    let masks = if process.mask == 0 { &[][..] } else { &[&mask[..]] };
+    let arguments = |command, last| {
+        [&[command, "section", &address, "stack", &stack_address, pc, sp, fp, lr, last][..], masks].concat()
+    };
     folder.answers(&arguments("caller", &first), &words::step(&walked.step));
     folder.answers(&arguments("trace", &limit), &words::trace(walk.registers.pc, &walked));
 }
@@ -113,6 +117,55 @@ fn the_walks_of_document_01_are_answered() {
     for limit in ["257", "0000000000000000257", "9999999999999999999"] {
         folder.answers(&from("trace", "stack", limit), "refused: 42, the limit is above 256\n");
     }
+}
+
+// By hand too: a function of AArch64 whose only row is signed, which calls itself. Its outermost frame has a signature
+// for RA and nothing else.
+#[test]
+fn a_mask_is_taken_and_may_be_left_out() {
+    let folder = Folder::of("masks");
+    let row = Row { signed: true, ..Row::new(0, 0, &[16, -8, -16]) };
+    let mut section = Section::new(Machine::Aarch64);
+    section.functions = vec![Function::new(0x1000, 0x20, 0, vec![row])];
+    folder.put("signed", &section.bytes());
+    let stack: [u64; 4] = [0x7f00_0000_0000_7020, 0x002a_0000_0040_1008, 0, 0x0055_0000_0000_0000];
+    folder.put("stack", &stack.map(u64::to_le_bytes).concat());
+    let from = |command, last| [command, "signed", "400000", "stack", "7000", "401004", "7000", "0", "5", last];
+    let with = |command, last, mask| [&from(command, last)[..], &[mask]].concat();
+    let caller = "caller:\nPC  0000000000401008\nSP  0000000000007010\nFP  7f00000000007020\nLR  0000000000000005\n";
+    let head = "frame  CFA               RA                FP\n";
+    let first = "    0  0000000000007010  0000000000401008  7f00000000007020\n";
+    let second = "    1  0000000000007020  0000000000000000  0000000000000000\n";
+    let whole = format!("{head}{first}{second}frames: 2\nended: 30, RA is 0: the outermost frame\n");
+    for mask in ["7f000000000000", "0x007F000000000000", "ffff000000000000"] {
+        folder.answers(&with("caller", "1", mask), caller);
+        folder.answers(&with("trace", "2", mask), &whole);
+    }
+    let signed = "24, the return address is signed, and no mask says by which bits\n";
+    folder.answers(&from("caller", "1"), &format!("refused: {signed}"));
+    folder.answers(&from("trace", "2"), &format!("frames: 0\nended: {signed}"));
+    for none in ["0", "0x0", "0000000000000000"] {
+        folder.answers(&with("caller", "1", none), &format!("refused: {signed}"));
+        folder.answers(&with("trace", "2", none), &format!("frames: 0\nended: {signed}"));
+    }
+}
+
+// One walk of every mask and every ending of a trace in each machine's stored cases of signed rows.
+#[test]
+fn every_mask_is_taken() {
+    let folder = Folder::of("signed");
+    let mut told = BTreeSet::new();
+    for case in cases::all().iter().filter(|case| case.name.starts_with("ok_walk_signed")) {
+        for (one, walked) in &case.walks {
+            if told.insert((case.section[4], one.process.mask, walked.traced.ending.number())) {
+                walk(&folder, &case.section, one);
+            }
+        }
+    }
+    let told_with = |abi, mask, ending| told.contains(&(abi, mask, ending));
+    assert!((1..=2).all(|abi| told_with(abi, 0, 24) && told_with(abi, u64::MAX, 30)), "{told:x?}");
+    assert!((1..=3).all(|abi| told_with(abi, 0x7f << 48, 21) && told_with(abi, 0x7f << 48, 30)), "{told:x?}");
+    assert!((1..=3).all(|abi| told.iter().filter(|(on, _, _)| *on == abi).count() >= 12), "{told:x?}");
 }
 
 fn case_named<'a>(cases: &'a [Case], name: &str) -> &'a Case {
@@ -245,10 +298,10 @@ fn a_stack_is_read_up_to_its_most_bytes() {
     let cases = cases::all();
     let mut deep = case_named(&cases, "K1_S").walks[0].0.clone();
     let begin = 0x7fff_0000_0000;
-    let moved = begin + (MOST_STACK_BYTES - deep.stack.len()) as u64 - deep.lies.stack;
+    let moved = begin + (MOST_STACK_BYTES - deep.stack.len()) as u64 - deep.process.stack;
     (deep.registers.sp, deep.registers.fp) = (deep.registers.sp + moved, deep.registers.fp + moved);
     deep.stack.splice(0..0, vec![0; MOST_STACK_BYTES - deep.stack.len()]);
-    deep.lies.stack = begin;
+    deep.process.stack = begin;
     assert_eq!(deep.by_reader(&S).traced.frames, 2);
     walk(&folder, &S, &deep);
 }
@@ -352,6 +405,8 @@ fn the_leftmost_wrong_argument_is_told() {
     folder.refuses(&["caller", "S", "0", "S", "0", "0", "0", "q", "r", "s"], &wrong::number("FP", "q"));
     folder.refuses(&["trace", "S", "0", "S", "0", "0", "0", "0", "r", "0x1"], &wrong::number("LR", "r"));
     folder.refuses(&["trace", "S", "0", "S", "0", "0", "0", "0", "0", "0x1"], &wrong::number("LIMIT", "0x1"));
+    folder.refuses(&["trace", "S", "0", "S", "0", "0", "0", "0", "0", "0x1", "t"], &wrong::number("LIMIT", "0x1"));
+    folder.refuses(&["caller", "S", "0", "S", "0", "0", "0", "0", "0", "1", "t"], &wrong::number("MASK", "t"));
 }
 
 #[test]
@@ -366,7 +421,14 @@ fn help_lists_every_command() {
     let told_of_counts = out.replace("hexadecimal", "").contains("decimal");
     assert!(out.contains("hexadecimal") && told_of_counts, "{out}");
     assert!(out.lines().count() >= 2 * COMMANDS.len(), "{out}");
+    let mut said = out.lines().skip_while(|line| !line.starts_with("A caller looks up PC with the mark and "));
+    assert_eq!(said.nth(1), Some(OF_THE_MASK), "{out}");
 }
+
+const OF_THE_MASK: &str = concat!(
+    "MASK has the bits of a signature, which are cleared from a signed RA (AArch64); ",
+    "left out it is 0: no such RA is taken."
+);
 
 // ---- the version
 

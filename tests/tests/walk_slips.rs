@@ -30,6 +30,65 @@ struct Found {
     on_aarch64: Row,
 }
 
+/// A caller before the bits of the mask are cleared from anything: its PC is RA as read.
+struct AsRead<'a> {
+    scene: &'a Scene<'a>,
+    found: &'a Found,
+    ra_place: Place,
+    mask: u64,
+    caller: Registers,
+}
+
+impl AsRead<'_> {
+    // The caller where something is done to the RA of a signed row, by RA and the mask.
+    fn if_signed(&self, done: fn(u64, u64) -> u64) -> Registers {
+        let pc = if self.found.row.signed { done(self.caller.pc, self.mask) } else { self.caller.pc };
+        Registers { pc, ..self.caller }
+    }
+
+    // The caller with RA cleared, or as it was read.
+    fn cleared_if(&self, cleared: bool) -> Registers {
+        let pc = if cleared { clear(self.caller.pc, self.mask) } else { self.caller.pc };
+        Registers { pc, ..self.caller }
+    }
+
+    // Another word of the caller as it would be if it were signed as RA is.
+    fn like_ra(&self, word: u64) -> u64 {
+        if self.found.row.signed {
+            clear(word, self.mask)
+        } else {
+            word
+        }
+    }
+
+    fn in_lr(&self) -> bool {
+        self.ra_place == Place::Register
+    }
+}
+
+fn clear(word: u64, mask: u64) -> u64 {
+    word & !mask
+}
+
+/// A caller, and its RA as it was read.
+struct Came {
+    caller: Registers,
+    read: u64,
+}
+
+/// What an RA is used for.
+#[derive(Clone, Copy, PartialEq, Eq)]
+enum Use {
+    /// A step hands it back.
+    Step,
+    /// It is written.
+    Frame,
+    /// It is held against 0.
+    Ending,
+    /// The next step starts from it.
+    Next,
+}
+
 #[derive(Clone, Copy)]
 struct Ways {
     /// In which order the rules stand: before a step, in it, and before a trace. 1 stands for 1 to 15, and 21 before a
@@ -39,10 +98,17 @@ struct Ways {
     before_trace: &'static [u64],
     past_the_end: fn(u64, usize) -> bool,
     has_mark: fn(u64) -> bool,
-    /// What is looked up by PC and whether there is a mark, if anything is; and the PC that a row's offset counts to.
+    /// PC as it counts, by the one handed in and the mask; what is looked up by it and whether there is a mark, if
+    /// anything is; and the PC that a row's offset counts to.
+    pc: fn(u64, u64) -> u64,
     looked_up: fn(u64, bool) -> Option<u64>,
     offset_from: fn(u64, u64) -> u64,
-    is_signed: fn(&Scene, &Found) -> bool,
+    /// The mask in force, by the one lent and whether there is a mark; 24 by that mask; and what is cleared by it.
+    mask: fn(u64, bool) -> u64,
+    no_mask_for: fn(&Scene, &Found, u64) -> bool,
+    cleared: fn(&AsRead) -> Registers,
+    /// The RA for a use, by the one as read and the cleared one.
+    ra_for: fn(Use, u64, u64) -> u64,
     cfa: fn(u64, i64) -> i128,
     is_outside: fn(i128) -> bool,
     too_low: fn(i128, u64, bool) -> bool,
@@ -78,9 +144,13 @@ const RIGHT: Ways = Ways {
     before_trace: &[41, 42, 43, 1],
     past_the_end: |address, length| i128::from(address) + length as i128 > TWO_64,
     has_mark: |first| first != 0,
+    pc: |pc, _| pc,
     looked_up: |pc, marked| if marked { Some(pc) } else { pc.checked_sub(1) },
     offset_from: |_, looked_up| looked_up,
-    is_signed: |_, found| found.row.signed,
+    mask: |mask, _| mask,
+    no_mask_for: |_, found, mask| found.row.signed && mask == 0,
+    cleared: |read| read.if_signed(clear),
+    ra_for: |_, _, cleared| cleared,
     cfa: |base, offset| i128::from(base) + i128::from(offset),
     is_outside: |cfa| !(0..TWO_64).contains(&cfa),
     too_low: |cfa, sp, marked| cfa < sp.into() || cfa == sp.into() && !marked,
@@ -111,7 +181,7 @@ fn wholly_inside(place: i128, length: usize) -> Option<i128> {
     (0 <= place && place + 8 <= length as i128).then_some(place)
 }
 
-static SLIPS: [(&str, Ways); 99] = [
+static SLIPS: [(&str, Ways); 128] = [
     // RA.
     ("LR is trusted in later frames", Ways { trusts_lr: |_| true, ..RIGHT }),
     ("LR is not trusted in the first frame", Ways { trusts_lr: |_| false, ..RIGHT }),
@@ -177,8 +247,11 @@ static SLIPS: [(&str, Ways); 99] = [
     ("words are in the other byte order", Ways { is_big: |big| !big, ..RIGHT }),
     ("places count from SP", Ways { counts_from: |_, sp| sp.into(), ..RIGHT }),
     // The rules' order, and the row.
-    ("24 is given on AMD64", Ways { is_signed: |_, found| found.on_aarch64.signed, ..RIGHT }),
-    ("24 is not given", Ways { is_signed: |_, _| false, ..RIGHT }),
+    ("24 is given on AMD64", Ways { no_mask_for: |_, found, mask| found.on_aarch64.signed && mask == 0, ..RIGHT }),
+    ("24 is not given", Ways { no_mask_for: |_, _, _| false, ..RIGHT }),
+    ("24 is given with a mask", Ways { no_mask_for: |_, found, _| found.row.signed, ..RIGHT }),
+    ("24 is given on rows that are not signed", Ways { no_mask_for: |s, _, mask| !s.amd64 && mask == 0, ..RIGHT }),
+    ("24 is given on AMD64 for every mask", Ways { no_mask_for: |_, found, _| found.on_aarch64.signed, ..RIGHT }),
     ("24 comes after 25", Ways { in_step: &[25, 24, 26, 27, 28], ..RIGHT }),
     ("24 comes after 26", Ways { in_step: &[25, 26, 24, 27, 28], ..RIGHT }),
     ("24 comes after 27", Ways { in_step: &[25, 26, 27, 24, 28], ..RIGHT }),
@@ -215,6 +288,69 @@ static SLIPS: [(&str, Ways); 99] = [
     (
         "RA 1 ends a trace",
         Ways { ending: |c, full| (RIGHT.ending)(&Registers { pc: c.pc.saturating_sub(1), ..*c }, full), ..RIGHT },
+    ),
+    // The signature.
+    ("RA is cleared in rows that are not signed", Ways { cleared: |read| read.cleared_if(!read.scene.amd64), ..RIGHT }),
+    ("RA is cleared on AMD64", Ways { cleared: |read| read.cleared_if(read.found.on_aarch64.signed), ..RIGHT }),
+    ("RA is cleared in every row of every machine", Ways { cleared: |read| read.cleared_if(true), ..RIGHT }),
+    (
+        "RA is not cleared where it was in LR",
+        Ways { cleared: |read| read.cleared_if(read.found.row.signed && !read.in_lr()), ..RIGHT },
+    ),
+    (
+        "RA is not cleared where it was on the stack",
+        Ways { cleared: |read| read.cleared_if(read.found.row.signed && read.in_lr()), ..RIGHT },
+    ),
+    ("RA is never cleared", Ways { cleared: |read| read.caller, ..RIGHT }),
+    ("RA keeps the mask's bits alone", Ways { cleared: |read| read.if_signed(|ra, mask| ra & mask), ..RIGHT }),
+    ("the mask's bits are set", Ways { cleared: |read| read.if_signed(|ra, mask| ra | mask), ..RIGHT }),
+    ("the mask's bits are flipped", Ways { cleared: |read| read.if_signed(|ra, mask| ra ^ mask), ..RIGHT }),
+    ("all bits from the mask's lowest on are cleared", Ways { cleared: |read| read.if_signed(from_lowest), ..RIGHT }),
+    (
+        "the top byte is cleared whatever the mask",
+        Ways { cleared: |read| read.if_signed(|ra, mask| clear(ra, mask | 0xff << 56)), ..RIGHT },
+    ),
+    (
+        "the lower half of the mask is cleared alone",
+        Ways { cleared: |read| read.if_signed(|ra, mask| clear(ra, mask & 0xffff_ffff)), ..RIGHT },
+    ),
+    (
+        "the upper half of the mask is cleared alone",
+        Ways { cleared: |read| read.if_signed(|ra, mask| clear(ra, mask >> 32 << 32)), ..RIGHT },
+    ),
+    ("the mask has 32 bits", Ways { mask: |mask, _| mask & 0xffff_ffff, ..RIGHT }),
+    ("the mask is 0 in later frames", Ways { mask: |mask, m| if m { mask } else { 0 }, ..RIGHT }),
+    ("the mask is 0 in the first frame", Ways { mask: |mask, m| if m { 0 } else { mask }, ..RIGHT }),
+    (
+        "RA is cleared in the first frame alone",
+        Ways { mask: |mask, m| if m { mask } else { 0 }, no_mask_for: by_what_is_lent, ..RIGHT },
+    ),
+    (
+        "RA is cleared in later frames alone",
+        Ways { mask: |mask, m| if m { 0 } else { mask }, no_mask_for: by_what_is_lent, ..RIGHT },
+    ),
+    ("the PC handed in is cleared", Ways { pc: clear, ..RIGHT }),
+    (
+        "FP is cleared as RA is",
+        Ways { cleared: |read| Registers { fp: read.like_ra(read.caller.fp), ..(RIGHT.cleared)(read) }, ..RIGHT },
+    ),
+    (
+        "LR is cleared as RA is",
+        Ways { cleared: |read| Registers { lr: read.like_ra(read.caller.lr), ..(RIGHT.cleared)(read) }, ..RIGHT },
+    ),
+    (
+        "CFA is cleared as RA is",
+        Ways { cleared: |read| Registers { sp: read.like_ra(read.caller.sp), ..(RIGHT.cleared)(read) }, ..RIGHT },
+    ),
+    (
+        "RA is held against 0 as read",
+        Ways { ra_for: |to, read, ra| if to == Use::Ending { read } else { ra }, ..RIGHT },
+    ),
+    ("RA is written as read", Ways { ra_for: |to, read, ra| if to == Use::Frame { read } else { ra }, ..RIGHT }),
+    ("a step hands RA back as read", Ways { ra_for: |to, read, ra| if to == Use::Step { read } else { ra }, ..RIGHT }),
+    (
+        "RA as read, minus 1, is looked up",
+        Ways { ra_for: |to, read, ra| if to == Use::Next { read } else { ra }, ..RIGHT },
     ),
     // FP.
     ("FP is never read", Ways { fp: |_, _| Place::Register, ..RIGHT }),
@@ -282,6 +418,15 @@ static SLIPS: [(&str, Ways); 99] = [
     ),
 ];
 
+// 24 as it should be, whatever mask is cleared by.
+fn by_what_is_lent(scene: &Scene, found: &Found, _: u64) -> bool {
+    (RIGHT.no_mask_for)(scene, found, scene.walk.process.mask)
+}
+
+fn from_lowest(ra: u64, mask: u64) -> u64 {
+    clear(ra, u64::MAX << mask.trailing_zeros())
+}
+
 fn in_lr_if_first(scene: &Scene, found: &Found, marked: bool) -> Place {
     if marked && !scene.amd64 {
         Place::Register
@@ -340,45 +485,54 @@ impl Ways {
                 (1, Verdict::Refused { number, index }) => {
                     return Step::Unsound { old: (self.old)(old, 0), number, index: (self.index)(index) }
                 }
-                (21, _) if self.asked(&old).is_none() => return Step::Refused { old: (self.old)(old, 0), number: 21 },
+                (21, _) if self.asked(scene, &old).is_none() => {
+                    return Step::Refused { old: (self.old)(old, 0), number: 21 }
+                }
                 _ => {}
             }
         }
         match self.caller(scene, old) {
-            Ok(caller) => Step::Caller(caller),
+            Ok(came) => Step::Caller(self.with_ra_for(Use::Step, &came)),
             Err((number, cfa)) => Step::Refused { old: (self.old)(old, cfa), number },
         }
     }
 
     fn is_past_the_end(&self, scene: &Scene) -> bool {
-        (self.past_the_end)(scene.walk.lies.stack, scene.walk.stack.len())
+        (self.past_the_end)(scene.walk.process.stack, scene.walk.stack.len())
     }
 
-    fn asked(&self, registers: &Registers) -> Option<u64> {
-        (self.looked_up)(registers.pc, (self.has_mark)(registers.first))
+    fn asked(&self, scene: &Scene, registers: &Registers) -> Option<u64> {
+        let pc = (self.pc)(registers.pc, scene.walk.process.mask);
+        (self.looked_up)(pc, (self.has_mark)(registers.first))
+    }
+
+    fn with_ra_for(&self, to: Use, came: &Came) -> Registers {
+        Registers { pc: (self.ra_for)(to, came.read, came.caller.pc), ..came.caller }
     }
 
     // The caller, or a refusal's number and CFA as far as it was worked out.
-    fn caller(&self, scene: &Scene, old: Registers) -> Result<Registers, (u64, i128)> {
+    fn caller(&self, scene: &Scene, old: Registers) -> Result<Came, (u64, i128)> {
         let marked = (self.has_mark)(old.first);
-        let looked_up = self.asked(&old).ok_or((21, 0))?;
+        let looked_up = self.asked(scene, &old).ok_or((21, 0))?;
         let offset_from = (self.offset_from)(old.pc, looked_up);
         let found = scene.find(looked_up, offset_from).map_err(|number| (number, 0))?;
         let base = if found.row.base == Base::Sp { old.sp } else { old.fp };
         let cfa = (self.cfa)(base, found.row.cfa_offset);
-        let ra_place = (self.ra)(scene, &found, marked);
+        let (ra_place, mask) = ((self.ra)(scene, &found, marked), (self.mask)(scene.walk.process.mask, marked));
         let saved = |place, register| self.saved(scene, place, (self.counts_from)(cfa, old.sp), register);
         let (ra, fp) = (saved(ra_place, old.lr), saved((self.fp)(scene, &found), old.fp));
         let broken = |rule: &&u64| match rule {
-            24 => (self.is_signed)(scene, &found),
+            24 => (self.no_mask_for)(scene, &found, mask),
             25 => (self.is_outside)(cfa),
             26 => (self.too_low)(cfa, old.sp, marked),
             27 => found.row.ra == Place::Register && !(self.trusts_lr)(marked),
             _ => saved((self.asked)(ra_place), old.lr).is_none() || ra.is_none() || fp.is_none(),
         };
         match (self.in_step.iter().find(broken), ra, fp) {
-            (None, Some(pc), Some(fp)) => {
-                Ok((self.handed_back)(&old, Registers { pc, sp: cfa as u64, fp, lr: old.lr, first: 0 }))
+            (None, Some(read), Some(fp)) => {
+                let caller = Registers { pc: read, sp: cfa as u64, fp, lr: old.lr, first: 0 };
+                let cleared = (self.cleared)(&AsRead { scene, found: &found, ra_place, mask, caller });
+                Ok(Came { caller: (self.handed_back)(&old, cleared), read })
             }
             (number, _, _) => Err((number.copied().unwrap_or(28), cfa)),
         }
@@ -386,8 +540,8 @@ impl Ways {
 
     fn saved(&self, scene: &Scene, place: Place, counts_from: i128, register: u64) -> Option<u64> {
         let Place::AtOffset(offset) = place else { return Some(register) };
-        let (lies, stack) = (scene.walk.lies.stack, &scene.walk.stack);
-        let place = (self.place)(counts_from + i128::from(offset), lies, stack.len())?;
+        let (window, stack) = (scene.walk.process.stack, &scene.walk.stack);
+        let place = (self.place)(counts_from + i128::from(offset), window, stack.len())?;
         // What is not in the window is read as 0.
         let byte = |number: i128| usize::try_from(place + number).ok().and_then(|at| stack.get(at)).unwrap_or(&0);
         let bytes = [0, 1, 2, 3, 4, 5, 6, 7].map(|number| *byte(number));
@@ -421,23 +575,24 @@ impl Ways {
         let limit = (self.in_force)(scene.walk.limit).min(300);
         let (mut last, mut frames) = (first, 0);
         loop {
-            last = match self.caller(scene, (self.starts_at)(first, last)) {
-                Ok(caller) => caller,
+            let came = match self.caller(scene, (self.starts_at)(first, last)) {
+                Ok(came) => came,
                 Err((number, _)) => return Traced { frames, ending: Ending::Refused(number) },
             };
-            let frame = (self.frame)(&last);
+            let frame = (self.frame)(&self.with_ra_for(Use::Frame, &came));
             words.iter_mut().skip(frame.len() * frames as usize).zip(&frame).for_each(|(word, new)| *word = *new);
             frames += 1;
-            if let Some(ending) = (self.ending)(&last, frames == limit) {
+            if let Some(ending) = (self.ending)(&self.with_ra_for(Use::Ending, &came), frames == limit) {
                 return Traced { frames, ending };
             }
+            last = self.with_ra_for(Use::Next, &came);
         }
     }
 }
 
 impl Scene<'_> {
     fn find(&self, pc: u64, offset_from: u64) -> Result<Found, u64> {
-        let find = |meaning| row_for(meaning, self.walk.lies.section, pc, offset_from);
+        let find = |meaning| row_for(meaning, self.walk.process.section, pc, offset_from);
         let row = find(self.meaning)?;
         let on_aarch64 = self.as_aarch64.map_or(Ok(row), find)?;
         Ok(Found { row, on_aarch64 })

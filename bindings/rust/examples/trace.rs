@@ -1,20 +1,21 @@
 //! Prints a trace as a table: of a small section, or of files and numbers given as arguments.
 //!
 //!     cargo run --example trace
-//!     cargo run --example trace -- SECTION ADDRESS STACK STACK_ADDRESS PC SP FP LR
+//!     cargo run --example trace -- SECTION ADDRESS STACK STACK_ADDRESS PC SP FP LR [MASK]
 //!
-//! SECTION and STACK are files with raw bytes; numbers are hexadecimal.
+//! SECTION and STACK are files with raw bytes; numbers are hexadecimal. MASK has the bits that hold the signature of a
+//! return address (AArch64); left out it is 0, and a signed one is refused.
 
 use std::process::ExitCode;
 use std::{env, fs};
 use suntimpani::example::SECTION_S;
-use suntimpani::{frames, trace, Registers, Where};
+use suntimpani::{frames, trace, Process, Registers};
 
 /// All that is lent for a trace.
 struct Crash {
     section: Vec<u8>,
     stack: Vec<u8>,
-    lies: Where,
+    process: Process,
     registers: Registers,
 }
 
@@ -39,7 +40,7 @@ fn main() -> ExitCode {
 fn print(crash: &Crash) {
     const LIMIT: usize = 64;
     let mut words = [0; 3 * LIMIT];
-    let traced = trace(&crash.section, &crash.stack, crash.lies, crash.registers, LIMIT as u64, &mut words);
+    let traced = trace(&crash.section, &crash.stack, crash.process, crash.registers, LIMIT as u64, &mut words);
     println!("frame  CFA               RA                FP");
     for (number, frame) in frames(&words, traced.frames).enumerate() {
         println!("{number:>5}  {:016x}  {:016x}  {:016x}", frame.cfa, frame.ra, frame.fp);
@@ -55,19 +56,23 @@ fn small() -> Crash {
     Crash {
         section: SECTION_S.to_vec(),
         stack,
-        lies: Where { section_address: 0x40_0000, stack_address: 0x7000 },
+        process: Process { section_address: 0x40_0000, stack_address: 0x7000, mask: 0 },
         registers: Registers { pc: 0x40_1044, sp: 0x7000, fp: 0x7030, lr: 0, first: true },
     }
 }
 
 fn from(given: &[String]) -> Result<Crash, String> {
+    let (given, mask) = match given {
+        [given @ .., mask] if given.len() == 8 => (given, number(mask)?),
+        given => (given, 0),
+    };
     let [section, address, stack, stack_address, pc, sp, fp, lr] = given else {
-        return Err("the arguments are SECTION ADDRESS STACK STACK_ADDRESS PC SP FP LR".to_string());
+        return Err("the arguments are SECTION ADDRESS STACK STACK_ADDRESS PC SP FP LR [MASK]".to_string());
     };
     Ok(Crash {
         section: bytes_of(section)?,
         stack: bytes_of(stack)?,
-        lies: Where { section_address: number(address)?, stack_address: number(stack_address)? },
+        process: Process { section_address: number(address)?, stack_address: number(stack_address)?, mask },
         registers: Registers { pc: number(pc)?, sp: number(sp)?, fp: number(fp)?, lr: number(lr)?, first: true },
     })
 }

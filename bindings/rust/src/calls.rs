@@ -57,9 +57,10 @@ pub struct Answer {
 }
 
 #[repr(C)]
-pub struct Where {
+pub struct Process {
     pub section_address: u64,
     pub stack_address: u64,
+    pub mask: u64,
 }
 
 #[repr(C)]
@@ -96,7 +97,7 @@ extern "C" {
         length: usize,
         stack: *const u8,
         stack_length: usize,
-        lies: Where,
+        process: Process,
         registers: Registers,
     ) -> Step;
     fn suntimpani_trace(
@@ -104,7 +105,7 @@ extern "C" {
         length: usize,
         stack: *const u8,
         stack_length: usize,
-        lies: Where,
+        process: Process,
         registers: Registers,
         limit: u64,
         buffer: *mut u64,
@@ -137,15 +138,15 @@ pub fn lookup(section: &[u8], address: u64, pc: u64) -> Answer {
     unsafe { suntimpani_lookup(section.as_ptr(), section.len(), address, pc) }
 }
 
-pub fn caller(section: &[u8], stack: &[u8], lies: Where, registers: Registers) -> Step {
+pub fn caller(section: &[u8], stack: &[u8], process: Process, registers: Registers) -> Step {
     // SAFETY: both pointers and lengths are those of slices, which are lent for the length of the call.
-    unsafe { suntimpani_caller(section.as_ptr(), section.len(), stack.as_ptr(), stack.len(), lies, registers) }
+    unsafe { suntimpani_caller(section.as_ptr(), section.len(), stack.as_ptr(), stack.len(), process, registers) }
 }
 
 pub fn trace(
     section: &[u8],
     stack: &[u8],
-    lies: Where,
+    process: Process,
     registers: Registers,
     limit: u64,
     buffer: &mut [u64],
@@ -154,5 +155,5 @@ pub fn trace(
     let (length, stack_length, words) = (section.len(), stack.len(), buffer.len());
     // SAFETY: pointers and lengths are those of slices, lent for the length of the call. The buffer is lent to be
     // written to, so it overlaps neither of the others.
-    unsafe { suntimpani_trace(section_at, length, stack_at, stack_length, lies, registers, limit, buffer_at, words) }
+    unsafe { suntimpani_trace(section_at, length, stack_at, stack_length, process, registers, limit, buffer_at, words) }
 }

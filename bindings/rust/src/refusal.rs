@@ -47,7 +47,7 @@ pub enum Refusal {
     Dispute = 22,
     /// No row of the function starts at or below the PC that is looked up.
     NoRow = 23,
-    /// The return address is signed (AArch64).
+    /// The return address is signed (AArch64), and the mask is 0.
     Signed = 24,
     /// CFA is outside 0 to 2^64 - 1.
     CfaOutside = 25,
@@ -182,7 +182,7 @@ impl Refusal {
             Refusal::NoFunction => "no function covers the PC",
             Refusal::Dispute => "two or more functions cover the PC",
             Refusal::NoRow => "no row of the function starts at or below the PC",
-            Refusal::Signed => "the return address is signed",
+            Refusal::Signed => "the return address is signed, and no mask says by which bits",
             Refusal::CfaOutside => "CFA is outside 0 to 2^64 - 1",
             Refusal::CfaLow => "CFA is below SP, or equal to it without the first-frame mark",
             Refusal::RaLost => "RA has no place: only the first frame has it in LR",

@@ -4,13 +4,30 @@ use crate::calls;
 use crate::refusal::{Refusal, Unsound};
 use core::fmt::{self, Display, Formatter};
 
-/// Where the lent bytes lie in the memory of the program that crashed, which need not be this one.
-#[derive(Clone, Copy, Debug, PartialEq, Eq)]
-pub struct Where {
+/// What is known of the process that crashed, which need not be this one, beside its registers. Each field may have any
+/// value; on AMD64 the mask makes no difference.
+///
+/// Who has no mask leaves it 0:
+///
+/// ```
+/// use suntimpani::Process;
+///
+/// let known = Process { section_address: 0x40_0000, stack_address: 0x7000, ..Process::default() };
+/// assert_eq!(known.mask, 0);
+/// ```
+#[derive(Clone, Copy, Debug, Default, PartialEq, Eq)]
+pub struct Process {
     /// The address of the section's first byte.
     pub section_address: u64,
     /// The address of the stack window's first byte, the lowest one.
     pub stack_address: u64,
+    /// AArch64: the bits of a return address that hold its signature. They are cleared where a row is signed. With 0,
+    /// which says that they are not known, such a row is refused with 24.
+    ///
+    /// On Linux it is `insn_mask` of the register set or the note NT_ARM_PAC_MASK; for the own process every bit above
+    /// those of a user's address will do, `0xffff_0000_0000_0000` where it has 48. Nothing tells that a mask is wrong.
+    /// The header for C, `suntimpani.h`, says more.
+    pub mask: u64,
 }
 
 /// Registers; each may have any value. On AMD64 they are RIP, RSP and RBP, and LR is not read.
@@ -61,7 +78,7 @@ pub struct Traced {
 /// Why a trace ended.
 #[derive(Clone, Copy, Debug, PartialEq, Eq)]
 pub enum Ending {
-    /// 30: the last frame's RA is 0, it is the outermost.
+    /// 30: the last frame's RA is 0, cleared of the mask's bits where it is signed: it is the outermost.
     Outermost,
     /// 31: the limit is full, and the last frame's RA is not 0.
     Full,
@@ -76,8 +93,9 @@ pub enum Ending {
 pub struct Frame {
     /// The canonical frame address: SP of the caller.
     pub cfa: u64,
-    /// The return address as it was read: PC of the caller. It may be the first byte behind the function that called:
-    /// [`lookup`](crate::lookup) finds that function at the return address minus 1, as the walk does.
+    /// The return address as it was read, or where the row is signed with the mask's bits cleared: PC of the caller. It
+    /// may be the first byte behind the function that called: [`lookup`](crate::lookup) finds that function at the
+    /// return address minus 1, as the walk does.
     pub ra: u64,
     /// FP of the caller.
     pub fp: u64,
@@ -86,31 +104,32 @@ pub struct Frame {
 impl Registers {
     /// The caller's registers, or the same registers with a refusal. PC itself is looked up with the mark, and PC - 1
     /// without it: a return address stands behind its call, and where the call is the last instruction of its
-    /// function, behind the function.
+    /// function, behind the function. Where the row is signed (AArch64), the mask's bits are cleared from the return
+    /// address; LR stays as it is.
     ///
     /// ```
     /// use suntimpani::example::SECTION_S;
-    /// use suntimpani::{Registers, Step, Where};
+    /// use suntimpani::{Process, Registers, Step};
     ///
-    /// let lies = Where { section_address: 0x40_0000, stack_address: 0x7000 };
+    /// let process = Process { section_address: 0x40_0000, stack_address: 0x7000, mask: 0 };
     /// let crash = Registers { pc: 0x40_1044, sp: 0x7000, fp: 0x7030, lr: 0, first: true };
     /// let stack = 0x40_1008_u64.to_le_bytes();
-    /// let Step::Caller(caller) = crash.step(&SECTION_S, &stack, lies) else { panic!("a caller") };
+    /// let Step::Caller(caller) = crash.step(&SECTION_S, &stack, process) else { panic!("a caller") };
     /// assert_eq!((caller.pc, caller.sp, caller.fp), (0x40_1008, 0x7008, 0x7030));
     /// // The next frame's words lie above these eight bytes.
-    /// assert_eq!(caller.step(&SECTION_S, &stack, lies).number(), 28);
+    /// assert_eq!(caller.step(&SECTION_S, &stack, process).number(), 28);
     ///
     /// // The first function of the section ends in a call: the return address is the first byte behind it, and the
     /// // caller's FP and return address lie where its own FP points to.
     /// let behind = Registers { pc: 0x40_1020, sp: 0x7000, fp: 0x7000, lr: 0, first: false };
     /// let stack = [0x7038_u64, 0x40_1044].map(u64::to_le_bytes);
-    /// let Step::Caller(caller) = behind.step(&SECTION_S, stack.as_flattened(), lies) else { panic!("a caller") };
+    /// let Step::Caller(caller) = behind.step(&SECTION_S, stack.as_flattened(), process) else { panic!("a caller") };
     /// assert_eq!((caller.pc, caller.sp, caller.fp), (0x40_1044, 0x7010, 0x7038));
     /// // A crash there would be in no function.
-    /// assert_eq!(Registers { first: true, ..behind }.step(&SECTION_S, stack.as_flattened(), lies).number(), 21);
+    /// assert_eq!(Registers { first: true, ..behind }.step(&SECTION_S, stack.as_flattened(), process).number(), 21);
     /// ```
-    pub fn step(self, section: &[u8], stack: &[u8], lies: Where) -> Step {
-        let said = calls::caller(section, stack, lies.flat(), self.flat());
+    pub fn step(self, section: &[u8], stack: &[u8], process: Process) -> Step {
+        let said = calls::caller(section, stack, process.flat(), self.flat());
         match (said.number, Refusal::of(said.number)) {
             (0, _) => Step::Caller(Registers::of(&said.registers)),
             // By the library's contract: a step has neither a limit nor a buffer.
@@ -130,9 +149,9 @@ impl Registers {
     }
 }
 
-impl Where {
-    fn flat(self) -> calls::Where {
-        calls::Where { section_address: self.section_address, stack_address: self.stack_address }
+impl Process {
+    fn flat(self) -> calls::Process {
+        calls::Process { section_address: self.section_address, stack_address: self.stack_address, mask: self.mask }
     }
 }
 
@@ -141,12 +160,12 @@ impl Step {
     ///
     /// ```
     /// use suntimpani::example::SECTION_S;
-    /// use suntimpani::{Registers, Where};
+    /// use suntimpani::{Process, Registers};
     ///
-    /// let lies = Where { section_address: 0x40_0000, stack_address: 0x7000 };
+    /// let process = Process { section_address: 0x40_0000, stack_address: 0x7000, mask: 0 };
     /// let crash = Registers { pc: 0x40_1044, sp: 0x7000, fp: 0x7030, lr: 0, first: true };
-    /// assert_eq!(crash.step(&SECTION_S, &[0; 8], lies).number(), 0);
-    /// assert_eq!(crash.step(&SECTION_S, &[], lies).number(), 28);
+    /// assert_eq!(crash.step(&SECTION_S, &[0; 8], process).number(), 0);
+    /// assert_eq!(crash.step(&SECTION_S, &[], process).number(), 28);
     /// ```
     pub fn number(self) -> u64 {
         match self {
@@ -164,27 +183,27 @@ impl Step {
 ///
 /// ```
 /// use suntimpani::example::SECTION_S;
-/// use suntimpani::{trace, Ending, Refusal, Registers, Where};
+/// use suntimpani::{trace, Ending, Process, Refusal, Registers};
 ///
-/// let lies = Where { section_address: 0x40_0000, stack_address: 0x7000 };
+/// let process = Process { section_address: 0x40_0000, stack_address: 0x7000, mask: 0 };
 /// let crash = Registers { pc: 0x40_1044, sp: 0x7000, fp: 0x7030, lr: 0, first: true };
 /// let mut words = [9; 6];
-/// let traced = trace(&SECTION_S, &[0; 64], lies, crash, 2, &mut words);
+/// let traced = trace(&SECTION_S, &[0; 64], process, crash, 2, &mut words);
 /// assert_eq!((traced.frames, traced.ending), (1, Ending::Outermost));
 /// assert_eq!(words, [0x7008, 0, 0x7030, 9, 9, 9]);
 ///
-/// let traced = trace(&SECTION_S, &[0; 64], lies, crash, 3, &mut words);
+/// let traced = trace(&SECTION_S, &[0; 64], process, crash, 3, &mut words);
 /// assert_eq!(traced.ending, Ending::Refused(Refusal::TooFewWords));
 /// ```
 pub fn trace(
     section: &[u8],
     stack: &[u8],
-    lies: Where,
+    process: Process,
     registers: Registers,
     limit: u64,
     buffer: &mut [u64],
 ) -> Traced {
-    let said = calls::trace(section, stack, lies.flat(), registers.flat(), limit, buffer);
+    let said = calls::trace(section, stack, process.flat(), registers.flat(), limit, buffer);
     let ending = match (said.ending, Refusal::of(said.ending)) {
         (30, _) => Ending::Outermost,
         (31, _) => Ending::Full,

@@ -1,12 +1,13 @@
-//! K1 to K12 of document 01 and its examples on AArch64, through the safe surface; and every number by its words.
+//! K1 to K12 of document 01 and its examples on AArch64, through the safe surface; signed return addresses under masks;
+//! and every number by its words.
 
 use suntimpani::example::SECTION_S as S;
 use suntimpani::{check, frames, lookup, trace};
-use suntimpani::{Answer, Base, Ending, Frame, Outcome, Place, Refusal, Registers, Row, Rule};
-use suntimpani::{Step, Traced, Unsound, Verdict, Where};
+use suntimpani::{Answer, Base, Ending, Frame, Outcome, Place, Process, Refusal, Registers, Row, Rule};
+use suntimpani::{Step, Traced, Unsound, Verdict};
 
 const ADDRESS: u64 = 0x40_0000;
-const LIES: Where = Where { section_address: ADDRESS, stack_address: 0x7000 };
+const PROCESS: Process = Process { section_address: ADDRESS, stack_address: 0x7000, mask: 0 };
 const CRASH: Registers = Registers { pc: 0x40_1044, sp: 0x7000, fp: 0x7030, lr: 0x5555, first: true };
 
 const ENTERED: Row =
@@ -69,7 +70,7 @@ fn k8_and_k9() {
 fn k10_to_k12() {
     let walk = |stack: &[u8], limit| {
         let mut words = [9; 6];
-        (trace(&S, stack, LIES, CRASH, limit, &mut words), words)
+        (trace(&S, stack, PROCESS, CRASH, limit, &mut words), words)
     };
     let one = [0x7008, 0x40_1008, 0x7030, 9, 9, 9];
     let two = [0x7008, 0x40_1008, 0x7030, 0x7040, 0, 0];
@@ -84,29 +85,29 @@ fn k10_to_k12() {
 
 #[test]
 fn traces_that_are_refused_write_nothing() {
-    let refused = |section: &[u8], lies: Where, limit, words: usize| {
+    let refused = |section: &[u8], process: Process, limit, words: usize| {
         let mut buffer = vec![9; words];
-        let traced = trace(section, &stack(), lies, CRASH, limit, &mut buffer);
+        let traced = trace(section, &stack(), process, CRASH, limit, &mut buffer);
         assert!(traced.frames == 0 && buffer.iter().all(|&word| word == 9));
         traced.ending
     };
-    let high = Where { stack_address: u64::MAX, ..LIES };
+    let high = Process { stack_address: u64::MAX, ..PROCESS };
     assert_eq!(refused(&S, high, 257, 0), Ending::Refused(Refusal::Window));
-    assert_eq!(refused(&S, LIES, 257, 0), Ending::Refused(Refusal::LimitAbove));
-    assert_eq!(refused(&S, LIES, 0, 191), Ending::Refused(Refusal::TooFewWords));
-    assert_eq!(refused(&overlapping(1), LIES, 0, 192), Ending::Unsound(Unsound { rule: Rule::Sorted, index: 1 }));
+    assert_eq!(refused(&S, PROCESS, 257, 0), Ending::Refused(Refusal::LimitAbove));
+    assert_eq!(refused(&S, PROCESS, 0, 191), Ending::Refused(Refusal::TooFewWords));
+    assert_eq!(refused(&overlapping(1), PROCESS, 0, 192), Ending::Unsound(Unsound { rule: Rule::Sorted, index: 1 }));
 }
 
 #[test]
 fn steps() {
     let caller = Registers { pc: 0x40_1008, sp: 0x7008, first: false, ..CRASH };
-    assert_eq!(CRASH.step(&S, &stack(), LIES), Step::Caller(caller));
+    assert_eq!(CRASH.step(&S, &stack(), PROCESS), Step::Caller(caller));
     let outermost = Registers { pc: 0, sp: 0x7040, fp: 0, ..caller };
-    assert_eq!(caller.step(&S, &stack(), LIES), Step::Caller(outermost));
+    assert_eq!(caller.step(&S, &stack(), PROCESS), Step::Caller(outermost));
     let no_function = Step::Refused { old: outermost, refusal: Refusal::NoFunction };
-    assert_eq!(outermost.step(&S, &stack(), LIES), no_function);
+    assert_eq!(outermost.step(&S, &stack(), PROCESS), no_function);
     let unsound = Unsound { rule: Rule::Sorted, index: 1 };
-    assert_eq!(CRASH.step(&overlapping(1), &stack(), LIES), Step::Unsound { old: CRASH, unsound });
+    assert_eq!(CRASH.step(&overlapping(1), &stack(), PROCESS), Step::Unsound { old: CRASH, unsound });
 }
 
 #[test]
@@ -116,7 +117,7 @@ fn last_calls() {
     let stack = [0x7038_u64, 0x40_1044].map(u64::to_le_bytes);
     let step = |section: &[u8], pc, first| {
         let registers = Registers { pc, fp: 0x7000, first, ..CRASH };
-        (registers, registers.step(section, stack.as_flattened(), LIES))
+        (registers, registers.step(section, stack.as_flattened(), PROCESS))
     };
     let caller = |pc, sp, fp| Step::Caller(Registers { pc, sp, fp, first: false, ..CRASH });
     // The function that ends in the call, and its neighbour.
@@ -147,14 +148,71 @@ fn examples_on_aarch64() {
     let later = Registers { pc: 0x40_1001, first: false, ..first };
     let caller = Registers { pc: 0x40_1005, ..later };
     let refused = |old, refusal| Step::Refused { old, refusal };
-    assert_eq!(first.step(&ON_AARCH64, &[], LIES), Step::Caller(caller));
-    assert_eq!(later.step(&ON_AARCH64, &[], LIES), refused(later, Refusal::CfaLow));
-    assert_eq!(caller.step(&ON_AARCH64, &[], LIES), refused(caller, Refusal::RaLost));
+    assert_eq!(first.step(&ON_AARCH64, &[], PROCESS), Step::Caller(caller));
+    assert_eq!(later.step(&ON_AARCH64, &[], PROCESS), refused(later, Refusal::CfaLow));
+    assert_eq!(caller.step(&ON_AARCH64, &[], PROCESS), refused(caller, Refusal::RaLost));
     let signed =
         Row { start: 8, base: Base::Fp, cfa: 32, ra: Place::AtOffset(-24), fp: Place::AtOffset(-32), signed: true };
     assert_eq!(lookup(&ON_AARCH64, ADDRESS, 0x40_100f), found(0, 2, signed, 1));
     let in_signed = Registers { pc: 0x40_1008, ..first };
-    assert_eq!(in_signed.step(&ON_AARCH64, &[], LIES), refused(in_signed, Refusal::Signed));
+    assert_eq!(in_signed.step(&ON_AARCH64, &[], PROCESS), refused(in_signed, Refusal::Signed));
+}
+
+/// The bits from 48 to 54, and a return address with some of them.
+const MASK: u64 = 0x007f_0000_0000_0000;
+const SIGNED_LR: u64 = 0x0055_0000_0040_1009;
+
+/// ON_AARCH64 with the row from 4 on signed too, which has RA in LR and CFA 16 above SP.
+fn signed_leaf() -> [u8; 59] {
+    let mut section = ON_AARCH64;
+    section[52] |= 0x80;
+    section
+}
+
+/// FP's word at 0x7030 and RA's at 0x7038, both with bits of the mask.
+fn signed_stack() -> [u8; 64] {
+    let mut stack = [0; 64];
+    stack[48..56].copy_from_slice(&0x0044_0000_0000_7050_u64.to_le_bytes());
+    stack[56..].copy_from_slice(&0x002a_0000_0040_1009_u64.to_le_bytes());
+    stack
+}
+
+// From LR, then from a word of the stack: RA alone is cleared, and LR and the saved FP are as they were.
+#[test]
+fn signed_steps() {
+    let step =
+        |registers: Registers, mask| registers.step(&signed_leaf(), &signed_stack(), Process { mask, ..PROCESS });
+    let leaf = Registers { pc: 0x40_1004, lr: SIGNED_LR, ..CRASH };
+    let caller = Registers { pc: 0x40_1009, sp: 0x7010, first: false, ..leaf };
+    let next = Registers { sp: 0x7050, fp: 0x0044_0000_0000_7050, ..caller };
+    assert_eq!(step(leaf, MASK), Step::Caller(caller));
+    assert_eq!(step(caller, MASK), Step::Caller(next));
+    for registers in [leaf, caller] {
+        assert_eq!(step(registers, 0), Step::Refused { old: registers, refusal: Refusal::Signed });
+    }
+    assert_eq!(step(leaf, u64::MAX), Step::Caller(Registers { pc: 0, ..caller }));
+    // Neither a row that is not signed nor AMD64 has anything cleared.
+    let plain = Registers { pc: 0x40_1000, ..leaf };
+    assert_eq!(step(plain, u64::MAX), Step::Caller(Registers { pc: SIGNED_LR, first: false, ..plain }));
+    let masked = Process { mask: u64::MAX, ..PROCESS };
+    assert_eq!(CRASH.step(&S, &stack(), masked), CRASH.step(&S, &stack(), PROCESS));
+}
+
+#[test]
+fn signed_traces() {
+    let walk = |mask| {
+        let (mut words, leaf) = ([9; 6], Registers { pc: 0x40_1004, lr: SIGNED_LR, ..CRASH });
+        let process = Process { mask, ..PROCESS };
+        (trace(&signed_leaf(), &signed_stack(), process, leaf, 2, &mut words), words)
+    };
+    let two = [0x7010, 0x40_1009, 0x7030, 0x7050, 0x40_1009, 0x0044_0000_0000_7050];
+    assert_eq!(walk(MASK), (Traced { frames: 2, ending: Ending::Full }, two));
+    assert_eq!(walk(0), (Traced { frames: 0, ending: Ending::Refused(Refusal::Signed) }, [9; 6]));
+    assert_eq!(walk(u64::MAX), (Traced { frames: 1, ending: Ending::Outermost }, [0x7010, 0, 0x7030, 9, 9, 9]));
+    // A bit of the signature is left: the address lies in no function.
+    let part = [0x7010, 0x0001_0000_0040_1009, 0x7030, 9, 9, 9];
+    let nowhere = Ending::Refused(Refusal::NoFunction);
+    assert_eq!(walk(MASK - (1 << 48)), (Traced { frames: 1, ending: nowhere }, part));
 }
 
 /// Each number has one name, and its words begin with it.
@@ -178,4 +236,5 @@ fn every_number_has_its_words() {
     let unsound = Unsound { rule: Rule::RowsRising, index: 0 };
     assert_eq!(unsound.to_string(), "13, a row start is not above the one before it, in function 0");
     assert_eq!(Unsound { rule: Rule::RowSum, index: 0 }.to_string(), Rule::RowSum.to_string());
+    assert_eq!(Refusal::Signed.to_string(), "24, the return address is signed, and no mask says by which bits");
 }

@@ -16,7 +16,7 @@ use Rattle.caller.specs.computed.Caller.{stepOf, stepIn}
 use Rattle.caller.specs.declared.registers.Asked.the-variants.{At, Nowhere}
 use Rattle.caller.specs.declared.registers.Registers.{Registers}
 use Rattle.caller.specs.declared.registers.Step.the-variants.{Caller, Refused}
-use Rattle.caller.specs.declared.registers.Where.{Where}
+use Rattle.caller.specs.declared.registers.Process.{Process}
 use Rattle.caller.proofs.LookedUpLaws.{nowhere-refused}
 use Rattle.caller.proofs.RegisterLaws.{asked-unmarked, asked-marked}
 use Rattle.caller.proofs.StepLaws.{by-shown, step-exactly-when}
@@ -58,8 +58,8 @@ module _ (registers : Registers) where
   )
 
   -- "is answered 21, .. with no lookup made": by whatever a lookup would find
-  pub no-lookup : AsksNothing registers → (shape : Shape) (look : ℕ → Finding) (stack : List ℕ) (lies : Where)
-      → stepOf shape look stack lies registers ≡ Refused registers 21
+  pub no-lookup : AsksNothing registers → (shape : Shape) (look : ℕ → Finding) (stack : List ℕ) (process : Process)
+      → stepOf shape look stack process registers ≡ Refused registers 21
   no-lookup nothing = nowhere-refused registers (nowhere-exactly-when .1 nothing)
 
 -- ---- "The RA written stays as read."
@@ -74,12 +74,12 @@ base-kept registers pc Fp = refl
 base-kept registers pc Sp = refl
 
 -- the caller is by the row alone: registers at another PC for which this row is found have the same caller, its PC included
-pub whatever-asked : (s stack : List ℕ) (lies : Where) (registers caller : Registers) (h : CallerCase s stack lies registers caller) (pc : ℕ)
-    → RowFound s stack lies (atPc registers pc) (h .row)
-    → stepIn s stack lies (atPc registers pc) ≡ Caller caller
+pub whatever-asked : (s stack : List ℕ) (process : Process) (registers caller : Registers) (h : CallerCase s stack process registers caller) (pc : ℕ)
+    → RowFound s stack process (atPc registers pc) (h .row)
+    → stepIn s stack process (atPc registers pc) ≡ Caller caller
 unfolding cfaOf
-whatever-asked s stack lies registers caller h pc found =
-    step-exactly-when s stack lies (atPc registers pc) (Caller caller) .1
+whatever-asked s stack process registers caller h pc found =
+    step-exactly-when s stack process (atPc registers pc) (Caller caller) .1
     record {
       row = h .row;
       cfa = h .cfa;
@@ -89,6 +89,8 @@ whatever-asked s stack lies registers caller h pc found =
             not-26 = h .words-at .not-26;
             not-27 = h .words-at .not-27;
           };
+      ra = h .ra;
+      ra-is = h .ra-is;
       pc-is = h .pc-is;
       sp-is = h .sp-is;
       fp-is = h .fp-is;

@@ -19,23 +19,23 @@ use Rattle.caller.specs.declared.registers.Asked.the-variants.{At, Nowhe
 use Rattle.caller.specs.declared.registers.Registers.{Registers}
 use Rattle.caller.specs.declared.registers.Step.{Step}
 use Rattle.caller.specs.declared.registers.Step.the-variants.{Refused}
-use Rattle.caller.specs.declared.registers.Where.{Where}
+use Rattle.caller.specs.declared.registers.Process.{Process}
 
 -- where there is no PC to look up, whatever a lookup would find
-pub nowhere-refused : (registers : Registers) → askedOf registers ≡ Nowhere → (shape : Shape) (look : ℕ → Finding) (stack : List ℕ) (lies : Where)
-    → stepOf shape look stack lies registers ≡ Refused registers 21
+pub nowhere-refused : (registers : Registers) → askedOf registers ≡ Nowhere → (shape : Shape) (look : ℕ → Finding) (stack : List ℕ) (process : Process)
+    → stepOf shape look stack process registers ≡ Refused registers 21
 unfolding lookAt fromFinding withFinding stepOf
-nowhere-refused registers nowhere shape look stack lies = rw nowhere
+nowhere-refused registers nowhere shape look stack process = rw nowhere
 
-module _ (s stack : List ℕ) (lies : Where) (registers : Registers) where
+module _ (s stack : List ℕ) (process : Process) (registers : Registers) where
   pub nowhere-step : {asked : Asked} → asked ≡ askedOf registers → asked ≡ Nowhere
-      → Refused registers 21 ≡ stepOf (shapeOf s) (lookIn s (lies .section)) stack lies registers
-  nowhere-step is nowhere = sym (nowhere-refused registers (sym is ∙ nowhere) _ _ stack lies)
+      → Refused registers 21 ≡ stepOf (shapeOf s) (lookIn s (process .section)) stack process registers
+  nowhere-step is nowhere = sym (nowhere-refused registers (sym is ∙ nowhere) _ _ stack process)
 
   pub looked-up-step : {layout : Layout} {asked : Asked} {pc : ℕ} {answer : Answer} {here : Shape} {step : Step}
-      → AcceptedOf s layout → asked ≡ askedOf registers → asked ≡ At pc → answer ≡ answerOf s (lies .section) pc → here ≡ shape (layout .abi)
-      → step ≡ fromFinding here stack lies registers (findingOf (answer .outcome))
-      → step ≡ stepOf (shapeOf s) (lookIn s (lies .section)) stack lies registers
+      → AcceptedOf s layout → asked ≡ askedOf registers → asked ≡ At pc → answer ≡ answerOf s (process .section) pc → here ≡ shape (layout .abi)
+      → step ≡ fromFinding here stack process registers (findingOf (answer .outcome))
+      → step ≡ stepOf (shapeOf s) (lookIn s (process .section)) stack process registers
   unfolding lookAt stepOf lookIn shapeOf
   looked-up-step accepted is at looked shaped e =
       rw (sym is ∙ at)

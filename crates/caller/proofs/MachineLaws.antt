@@ -26,12 +26,15 @@ use Rattle.lookup.specs.Cases.{rowOfFunction}
 use Rattle.lookup.proofs.CoveringLaws.{by-value, is-true}
 use Rattle.caller.specs.Cases.{Aarch64, ValueIs, NoMark, Rule24, Rule27, CfaIs}
 use Rattle.caller.specs.Frame.{cfaOf}
-use Rattle.caller.specs.InBytes.{CfaInBytes, RaOnAarch64, RaInBytes, FpInBytes}
+use Rattle.caller.specs.InBytes.{SignedInBytes, CfaInBytes, RaOnAarch64, RaInBytes, FpInBytes, PcInBytes}
+use Rattle.caller.specs.Signature.{Signed, maskOf, clear}
 use Rattle.caller.specs.declared.registers.Registers.{Registers}
-use Rattle.caller.specs.declared.registers.Where.{Where}
-use Rattle.caller.proofs.TestLaws.{is-set}
+use Rattle.caller.specs.declared.registers.Process.{Process}
+use Rattle.caller.proofs.SignatureLaws.{clear-exactly-when, clear-none, mask-of-signed, mask-of-unsigned}
+use Rattle.caller.proofs.StepLaws.{by-shown}
+use Rattle.caller.proofs.TestLaws.{is-set, signed-shows}
 
-amd64-not : ¬ Aarch64 Amd64
+pub amd64-not : ¬ Aarch64 Amd64
 amd64-not (inl e) = let z : _≡_ {A = ℕ} 0 1 = cc in omega arith
 amd64-not (inr e) = let z : _≡_ {A = ℕ} 0 1 = cc in omega arith
 
@@ -105,13 +108,16 @@ fp-with-ra area abi code at is =
 -- ---- row k of function i
 
 module _ (s : List ℕ) (i k : ℕ) where
-  pub rule-24-bytes : Rule24 (shapeOf s) (rowOfFunction s i k) ↔ (Aarch64 (layoutOf s .abi) × (signedBit (rowInfoAt s i k) ≡ true))
+  signed-bytes : Signed (shapeOf s) (rowOfFunction s i k) ↔ SignedInBytes s i k
   unfolding rowIn rowInfoAt shapeOf
-  rule-24-bytes =
+  signed-bytes =
       let bit = signed-bit (areaOf s) (shapeOf s) (typeOf (entryIn s i .info)) (rowPlaceAt s i k) in (
         λ h. let (signs, set) = bit .0 (h .1) in (signs-set (layoutOf s .abi) .0 signs, set),
         λ h. let signs = signs-set (layoutOf s .abi) .1 (h .0) in (signs, bit .1 (signs, h .1)),
       )
+
+  pub rule-24-bytes : (process : Process) → Rule24 (shapeOf s) (rowOfFunction s i k) process ↔ (SignedInBytes s i k × (process .mask ≡ 0))
+  rule-24-bytes process = (λ h. (signed-bytes .0 (h .0), h .1), λ h. (signed-bytes .1 (h .0), h .1))
 
   -- a section that obeys has no row with count 0
   pub rule-27-bytes : (registers : Registers) → Obeys s → i < functionCount s → k < rowCount s i
@@ -131,12 +137,12 @@ module _ (s : List ℕ) (i k : ℕ) where
 
 -- ---- RA and FP of the caller, by those bytes
 
-module _ (s stack : List ℕ) (lies : Where) (registers : Registers) (i k cfa : ℕ) where
+module _ (s stack : List ℕ) (process : Process) (registers : Registers) (i k cfa : ℕ) where
   abbrev count : ℕ
   count = countOf (rowInfoAt s i k)
 
   abbrev Saved : ℕ → Place → ℕ → Type 0
-  Saved register place value = ValueIs stack (lies .stack) (shapeOf s .order) cfa register place value
+  Saved register place value = ValueIs stack (process .stack) (shapeOf s .order) cfa register place value
 
   -- 27 is past, and this is RA
   abbrev RaIs : ℕ → Type 0
@@ -149,7 +155,7 @@ module _ (s stack : List ℕ) (lies : Where) (registers : Registers) (i k cfa : 
     least : 1 ≤ count
     least = obeys .entries i function .rows k inside .rule12 .1
 
-    on-aarch64 : (ra : ℕ) → Aarch64 (layoutOf s .abi) → RaIs ra ↔ RaOnAarch64 s stack lies registers i k cfa ra
+    on-aarch64 : (ra : ℕ) → Aarch64 (layoutOf s .abi) → RaIs ra ↔ RaOnAarch64 s stack process registers i k cfa ra
     unfolding rowIn rowInfoAt shapeOf
     on-aarch64 ra machine =
         let free = ra-free (layoutOf s .abi) .1 machine in
@@ -171,11 +177,11 @@ module _ (s stack : List ℕ) (lies : Where) (registers : Registers) (i k cfa : 
               ((λ lost. mark (lost .1)), rw (register .1 (free, omega arith)) is)),
         )
 
-    pub ra-in-bytes : (ra : ℕ) → RaIs ra ↔ RaInBytes s stack lies registers (layoutOf s .abi) i k cfa ra
+    pub ra-in-bytes : (ra : ℕ) → RaIs ra ↔ RaInBytes s stack process registers (layoutOf s .abi) i k cfa ra
     unfolding rowIn shapeOf shape amd64Shape
     ra-in-bytes ra = on (layoutOf s .abi) refl
       where
-        on : (abi : Abi) → layoutOf s .abi ≡ abi → RaIs ra ↔ RaInBytes s stack lies registers abi i k cfa ra
+        on : (abi : Abi) → layoutOf s .abi ≡ abi → RaIs ra ↔ RaInBytes s stack process registers abi i k cfa ra
         on Aarch64Big e = on-aarch64 ra (inl e)
         on Aarch64Little e = on-aarch64 ra (inr e)
         on Amd64 e =
@@ -184,7 +190,7 @@ module _ (s stack : List ℕ) (lies : Where) (registers : Registers) (i k cfa : 
             ∙ ap (λ a. AtOffset (shape a .fixedra)) e in
             (λ h. rw fixed at (h .1), λ h. (not-lost fixed, rw fixed h))
 
-  pub fp-in-bytes : (fp : ℕ) → Saved (registers .fp) (rowOfFunction s i k .fp) fp ↔ FpInBytes s stack lies registers i k cfa fp
+  pub fp-in-bytes : (fp : ℕ) → Saved (registers .fp) (rowOfFunction s i k .fp) fp ↔ FpInBytes s stack process registers i k cfa fp
   unfolding rowIn rowInfoAt
   fp-in-bytes fp =
       let at = rowPlaceAt s i k in
@@ -197,4 +203,22 @@ module _ (s stack : List ℕ) (lies : Where) (registers : Registers) (i k cfa : 
             (λ e. let more = ltb-true number count e in inl (more, rw (saved more) at h))
             (λ e. let few = ltb-false number count e in inr (few, rw (kept few) at h)),
         ⊎-elim (λ h. rw (saved (h .0)) (h .1)) (λ h. rw (kept (h .0)) (h .1)),
+      )
+
+  -- the caller's PC, by the bit and the mask
+  pub pc-in-bytes : (ra pc : ℕ)
+      → (pc ≡ clear (maskOf (shapeOf s) (rowOfFunction s i k) process) ra) ↔ PcInBytes s stack process registers i k ra pc
+  pc-in-bytes ra pc =
+      let bytes = signed-bytes s i k in
+      let row = rowOfFunction s i k in
+      let masked = clear-exactly-when (process .mask) ra pc in (
+        λ is.
+            by-shown (signed-shows (shapeOf s) row)
+            (λ signed. inl (bytes .0 signed, masked .0 (sym (rw (mask-of-signed (shapeOf s) row process signed) at is))))
+            (λ unsigned.
+            inr ((λ set. unsigned (bytes .1 set)), rw (mask-of-unsigned (shapeOf s) row process unsigned) at is ∙ clear-none ra)),
+        ⊎-elim
+            (λ h. rw (mask-of-signed (shapeOf s) row process (bytes .1 (h .0))) (sym (masked .1 (h .1))))
+            (λ h.
+            h .1 ∙ sym (rw (mask-of-unsigned (shapeOf s) row process (λ set. h .0 (bytes .0 set))) (clear-none ra))),
       )

@@ -1,5 +1,5 @@
 -- The numbers of a step: no two causes have one, and each is given exactly when its cause holds (`step-given`). And a caller has no mark,
--- whatever a lookup finds (`caller-unmarked`).
+-- whatever a lookup finds (`caller-handed`).
 -- Assumes nothing.
 use mathlib.Core.Path.{_≡_, refl, sym, _∙_, ap, subst}
 use mathlib.Core.List.{List, [], _∷_}
@@ -22,14 +22,15 @@ use Rattle.lookup.proofs.NumberLaws.{same-unfound, number-of-unfound}
 use Rattle.caller.specs.Cases.{OnStep, Case, CallerCase}
 use Rattle.caller.specs.Frame.{askedOf, cfaOf, callerSp}
 use Rattle.caller.specs.Numbers.{Refusal, unfound, signed, cfaOutside, cfaLow, raLost, wordOutside, numberOfRefusal, StepCause, window, unsound, refused, numberOfStepCause, stepNumber}
-use Rattle.caller.specs.computed.Caller.{isSigned, isLow, isLost, spotOf, valuesOf, withFinding, unlessSigned, withCfa, unlessLow, unlessLost, withValues, fromSpots, fromCfa, fromRow, fromFinding, lookAt, stepOf, stepIn}
+use Rattle.caller.specs.Signature.{maskOf}
+use Rattle.caller.specs.computed.Caller.{isMaskless, isLow, isLost, spotOf, valuesOf, withFinding, unlessMaskless, withCfa, unlessLow, unlessLost, withValues, fromSpots, fromCfa, fromRow, fromFinding, lookAt, stepOf, stepIn}
 use Rattle.caller.specs.declared.place.Spot.{Spot}
 use Rattle.caller.specs.declared.place.Values.{Values}
 use Rattle.caller.specs.declared.place.Values.the-variants.{Both, NoRa, NoFp}
 use Rattle.caller.specs.declared.registers.Registers.{Registers}
 use Rattle.caller.specs.declared.registers.Step.{Step}
 use Rattle.caller.specs.declared.registers.Step.the-variants.{Caller, Unsound, Refused}
-use Rattle.caller.specs.declared.registers.Where.{Where}
+use Rattle.caller.specs.declared.registers.Process.{Process}
 use Rattle.caller.proofs.StepLaws.{step-exactly-when}
 
 -- ---- no two causes have one number
@@ -102,88 +103,95 @@ step-distinct = record { same = same-cause; above-0 = above }
 
 -- ---- by number
 
-module _ (s stack : List ℕ) (lies : Where) (registers : Registers) where
+module _ (s stack : List ℕ) (process : Process) (registers : Registers) where
   abbrev number : ℕ
-  number = stepNumber (stepIn s stack lies registers)
+  number = stepNumber (stepIn s stack process registers)
 
   -- what a cause that holds makes of the answer
-  step-makes : (cause : StepCause) → OnStep s stack lies registers cause → number ≡ numberOfStepCause cause
+  step-makes : (cause : StepCause) → OnStep s stack process registers cause → number ≡ numberOfStepCause cause
   unfolding stepNumber numberOfStepCause
-  step-makes window on = ap stepNumber (step-exactly-when s stack lies registers (Refused registers 41) .1 (refl, inl (refl, on)))
+  step-makes window on = ap stepNumber (step-exactly-when s stack process registers (Refused registers 41) .1 (refl, inl (refl, on)))
   step-makes (unsound rule) (fits, (index, given)) =
-      ap stepNumber (step-exactly-when s stack lies registers (Unsound registers (numberOfRule rule) index) .1 (refl, (fits, rule, refl, given)))
+      ap stepNumber (step-exactly-when s stack process registers (Unsound registers (numberOfRule rule) index) .1 (refl, (fits, rule, refl, given)))
   step-makes (refused refusal) on =
-      ap stepNumber (step-exactly-when s stack lies registers (Refused registers (numberOfRefusal refusal)) .1 (refl, inr (refusal, refl, on)))
+      ap stepNumber (step-exactly-when s stack process registers (Refused registers (numberOfRefusal refusal)) .1 (refl, inr (refusal, refl, on)))
 
   -- there is a caller, or a cause holds
-  pub caller-or-cause : ((caller : Registers) × CallerCase s stack lies registers caller)
-      ⊎ ((cause : StepCause) × OnStep s stack lies registers cause)
-  caller-or-cause = by (stepIn s stack lies registers) (step-exactly-when s stack lies registers _ .0 refl)
+  pub caller-or-cause : ((caller : Registers) × CallerCase s stack process registers caller)
+      ⊎ ((cause : StepCause) × OnStep s stack process registers cause)
+  caller-or-cause = by (stepIn s stack process registers) (step-exactly-when s stack process registers _ .0 refl)
     where
-      by : (o : Step) → Case s stack lies registers o
-          → ((caller : Registers) × CallerCase s stack lies registers caller) ⊎ ((cause : StepCause) × OnStep s stack lies registers cause)
+      by : (o : Step) → Case s stack process registers o
+          → ((caller : Registers) × CallerCase s stack process registers caller) ⊎ ((cause : StepCause) × OnStep s stack process registers cause)
       by (Caller caller) case = inl (caller, case)
       by (Unsound old n index) (same, (fits, rule, is, given)) = inr (unsound rule, (fits, (index, given)))
       by (Refused old n) (same, inl (is, past)) = inr (window, past)
       by (Refused old n) (same, inr (refusal, is, on)) = inr (refused refusal, on)
 
-  pub step-due : Due numberOfStepCause number (OnStep s stack lies registers)
+  pub step-due : Due numberOfStepCause number (OnStep s stack process registers)
   unfolding stepNumber
   step-due =
       ⊎-elim
-      (λ h. inl (ap stepNumber (step-exactly-when s stack lies registers (Caller (h .0)) .1 (h .1))))
+      (λ h. inl (ap stepNumber (step-exactly-when s stack process registers (Caller (h .0)) .1 (h .1))))
       (λ h. inr (h .0, step-makes (h .0) (h .1), h .1))
       caller-or-cause
 
   -- 41, 1 to 15 and 21 to 28: each is given exactly when its cause holds
-  pub step-given : (cause : StepCause) → (number ≡ numberOfStepCause cause) ↔ OnStep s stack lies registers cause
-  step-given = due-exactly-when numberOfStepCause step-distinct number (OnStep s stack lies registers) step-due step-makes
+  pub step-given : (cause : StepCause) → (number ≡ numberOfStepCause cause) ↔ OnStep s stack process registers cause
+  step-given = due-exactly-when numberOfStepCause step-distinct number (OnStep s stack process registers) step-due step-makes
 
--- ---- a caller has no mark
+-- ---- a caller has no mark, and LR as it was
 
-abbrev Unmarked : Step → Type 0
-Unmarked (Caller caller) = caller .first ≡ 0
-Unmarked (Unsound old number index) = Unit {0}
-Unmarked (Refused old number) = Unit {0}
+abbrev HandedOn : Registers → Step → Type 0
+HandedOn old (Caller caller) = (caller .first ≡ 0) × (caller .lr ≡ old .lr)
+HandedOn old (Unsound registers number index) = Unit {0}
+HandedOn old (Refused registers number) = Unit {0}
 
-module _ (shape : Shape) (stack : List ℕ) (lies : Where) (registers : Registers) where
-  values-unmarked : (cfa : ℕ) (values : Values) → Unmarked (withValues registers cfa values)
+module _ (shape : Shape) (stack : List ℕ) (process : Process) (registers : Registers) where
+  values-handed : (mask cfa : ℕ) (values : Values) → HandedOn registers (withValues registers mask cfa values)
   unfolding withValues
-  values-unmarked cfa NoRa = tt
-  values-unmarked cfa NoFp = tt
-  values-unmarked cfa (Both ra fp) = refl
+  values-handed mask cfa NoRa = tt
+  values-handed mask cfa NoFp = tt
+  values-handed mask cfa (Both ra fp) = (refl, refl)
 
-  spots-unmarked : (cfa : ℕ) (ra fp : Spot) → Unmarked (fromSpots shape stack lies registers cfa ra fp)
+  spots-handed : (mask cfa : ℕ) (ra fp : Spot) → HandedOn registers (fromSpots shape stack process registers mask cfa ra fp)
   unfolding fromSpots unlessLost
-  spots-unmarked cfa ra fp =
+  spots-handed mask cfa ra fp =
       by-value (isLost registers ra)
       (λ e. rw (e, unlessLost) tt)
-      (λ e. rw (e, unlessLost) (values-unmarked cfa (valuesOf stack (lies .stack) (shape .order) registers ra fp)))
+      (λ e. rw (e, unlessLost) (values-handed mask cfa (valuesOf stack (process .stack) (shape .order) registers ra fp)))
 
-  cfa-unmarked : (row : Row) (cfa : ℕ) → Unmarked (fromCfa shape stack lies registers row cfa)
+  cfa-handed : (row : Row) (cfa : ℕ) → HandedOn registers (fromCfa shape stack process registers row cfa)
   unfolding fromCfa unlessLow
-  cfa-unmarked row cfa =
+  cfa-handed row cfa =
       by-value (isLow registers (callerSp cfa))
       (λ e. rw (e, unlessLow) tt)
-      (λ e. rw (e, unlessLow) (spots-unmarked cfa (spotOf cfa (row .ra)) (spotOf cfa (row .fp))))
+      (λ e. rw (e, unlessLow) (spots-handed (maskOf shape row process) cfa (spotOf cfa (row .ra)) (spotOf cfa (row .fp))))
 
-  memory-unmarked : (row : Row) (a : Address) → Unmarked (withCfa registers a (fromCfa shape stack lies registers row))
+  memory-handed : (row : Row) (a : Address) → HandedOn registers (withCfa registers a (fromCfa shape stack process registers row))
   unfolding withCfa
-  memory-unmarked row address.Outside = tt
-  memory-unmarked row (address.At cfa) = cfa-unmarked row cfa
+  memory-handed row address.Outside = tt
+  memory-handed row (address.At cfa) = cfa-handed row cfa
 
-  row-unmarked : (row : Row) → Unmarked (fromRow shape stack lies registers row)
-  unfolding fromRow unlessSigned
-  row-unmarked row =
-      by-value (isSigned shape row)
-      (λ e. rw (e, unlessSigned) tt)
-      (λ e. rw (e, unlessSigned) (memory-unmarked row (inMemory (cfaOf registers row))))
+  row-handed : (row : Row) → HandedOn registers (fromRow shape stack process registers row)
+  unfolding fromRow unlessMaskless
+  row-handed row =
+      by-value (isMaskless shape row process)
+      (λ e. rw (e, unlessMaskless) tt)
+      (λ e. rw (e, unlessMaskless) (memory-handed row (inMemory (cfaOf registers row))))
 
-  finding-unmarked : (found : Finding) → Unmarked (fromFinding shape stack lies registers found)
+  finding-handed : (found : Finding) → HandedOn registers (fromFinding shape stack process registers found)
   unfolding fromFinding withFinding
-  finding-unmarked (finds row number) = row-unmarked row
-  finding-unmarked (refuses number) = tt
+  finding-handed (finds row number) = row-handed row
+  finding-handed (refuses number) = tt
 
-  pub caller-unmarked : (look : ℕ → Finding) (caller : Registers) → stepOf shape look stack lies registers ≡ Caller caller → caller .first ≡ 0
-  unfolding stepOf
-  caller-unmarked look caller is = subst Unmarked is (finding-unmarked (lookAt look (askedOf registers)))
+  module _ (look : ℕ → Finding) (caller : Registers) (is : stepOf shape look stack process registers ≡ Caller caller) where
+    handed : (caller .first ≡ 0) × (caller .lr ≡ registers .lr)
+    unfolding stepOf
+    handed = subst (HandedOn registers) is (finding-handed (lookAt look (askedOf registers)))
+
+    pub caller-unmarked : caller .first ≡ 0
+    caller-unmarked = handed .0
+
+    pub caller-keeps-lr : caller .lr ≡ registers .lr
+    caller-keeps-lr = handed .1

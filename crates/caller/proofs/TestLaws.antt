@@ -25,9 +25,10 @@ use Rattle.accept.proofs.Decides.{Shows, shown, denied, at-most, equal, both, e
 use Rattle.lookup.proofs.CoveringLaws.{by-value, is-false}
 use Rattle.caller.specs.Cases.{WindowFits, Inside, WordIs, ValueIs, Outside, NoMark, Rule24, Rule26}
 use Rattle.caller.specs.Frame.{hasMark, callerSp}
-use Rattle.caller.specs.computed.Caller.{isSigned, isLow, spotAt, spotOf, isLost, valueOf}
+use Rattle.caller.specs.Signature.{Signed, isSigned}
+use Rattle.caller.specs.computed.Caller.{isMaskless, isLow, spotAt, spotOf, isLost, valueOf}
 use Rattle.caller.specs.declared.registers.Registers.{Registers}
-use Rattle.caller.specs.declared.registers.Where.{Where}
+use Rattle.caller.specs.declared.registers.Process.{Process}
 
 -- ---- single tests
 
@@ -42,14 +43,19 @@ twice {test = true} d = shown (d .holds refl)
 twice {test = false} d = denied (d .broken refl)
 
 -- 41
-pub fits-shows : (stack : List ℕ) (lies : Where) → Shows (windowFits stack (lies .stack)) (WindowFits stack lies)
+pub fits-shows : (stack : List ℕ) (process : Process) → Shows (windowFits stack (process .stack)) (WindowFits stack process)
 unfolding windowFits
-fits-shows stack lies = at-most _ _
+fits-shows stack process = at-most _ _
 
--- 24
-pub signed-shows : (shape : Shape) (row : Row) → Shows (isSigned shape row) (Rule24 shape row)
+-- "On AArch64, a row with the signed bit"
+pub signed-shows : (shape : Shape) (row : Row) → Shows (isSigned shape row) (Signed shape row)
 unfolding isSigned
 signed-shows shape row = both (is-set (shape .signs)) (is-set (row .signed))
+
+-- 24
+pub maskless-shows : (shape : Shape) (row : Row) (process : Process) → Shows (isMaskless shape row process) (Rule24 shape row process)
+unfolding isMaskless
+maskless-shows shape row process = both (signed-shows shape row) (equal _ _)
 
 pub mark-shows : (registers : Registers) → Shows (not (hasMark registers)) (NoMark registers)
 unfolding hasMark

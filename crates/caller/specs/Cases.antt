@@ -26,21 +26,22 @@ use Rattle.lookup.specs.Cases.{NoneCovers, SomeTwoCover, FoundCase, NoRowCase}
 use Rattle.lookup.specs.Numbers.{noFunction, dispute, noRow}
 use Rattle.caller.specs.Frame.{askedOf, cfaOf, callerSp}
 use Rattle.caller.specs.Numbers.{Refusal, unfound, signed, cfaOutside, cfaLow, raLost, wordOutside, numberOfRefusal, StepCause, window, unsound, refused, numberOfStepCause}
+use Rattle.caller.specs.Signature.{Signed, maskOf, clear}
 use Rattle.caller.specs.declared.registers.Asked.the-variants.{At, Nowhere}
 use Rattle.caller.specs.declared.registers.Registers.{Registers}
 use Rattle.caller.specs.declared.registers.Step.{Step}
 use Rattle.caller.specs.declared.registers.Step.the-variants.{Caller, Unsound, Refused}
-use Rattle.caller.specs.declared.registers.Where.{Where}
+use Rattle.caller.specs.declared.registers.Process.{Process}
 
 -- ---- the stack window
 
 -- 41: "stack address plus length above 2^64"
-abbrev pub Rule41 : List ℕ → Where → Type 0
-Rule41 stack lies = 2 ^ 64 < lies .stack + length stack
+abbrev pub Rule41 : List ℕ → Process → Type 0
+Rule41 stack process = 2 ^ 64 < process .stack + length stack
 
 -- its contrary
-abbrev pub WindowFits : List ℕ → Where → Type 0
-WindowFits stack lies = lies .stack + length stack ≤ 2 ^ 64
+abbrev pub WindowFits : List ℕ → Process → Type 0
+WindowFits stack process = process .stack + length stack ≤ 2 ^ 64
 
 -- the 8 bytes at z are "wholly inside the stack window" that lies at an address; z is any whole number
 abbrev pub Inside : List ℕ → ℕ → ℤ → Type 0
@@ -76,9 +77,9 @@ NoMark registers = registers .first ≡ 0
 abbrev pub Aarch64 : Abi → Type 0
 Aarch64 abi = (abi ≡ Aarch64Big) ⊎ (abi ≡ Aarch64Little)
 
--- 24: "AArch64 and the row's signed bit is set.", in the row's bytes `rule-24-in-bytes`
-abbrev pub Rule24 : Shape → Row → Type 0
-Rule24 shape row = (shape .signs ≡ true) × (row .signed ≡ true)
+-- 24: "AArch64 and the row's signed bit is set.", and "only when the mask is 0"; in the row's bytes `rule-24-in-bytes`
+abbrev pub Rule24 : Shape → Row → Process → Type 0
+Rule24 shape row process = Signed shape row × (process .mask ≡ 0)
 
 -- "CFA is base plus first offset. 25 when outside 0 to 2^64 - 1."
 abbrev pub Rule25 : Registers → Row → Type 0
@@ -97,8 +98,8 @@ abbrev pub Rule27 : Registers → Row → Type 0
 Rule27 registers row = (row .ra ≡ Register) × NoMark registers
 
 -- 28: "a needed word (RA first) is not wholly inside the stack window."
-abbrev pub Rule28 : List ℕ → Where → Row → ℕ → Type 0
-Rule28 stack lies row cfa = Outside stack (lies .stack) cfa (row .ra) ⊎ Outside stack (lies .stack) cfa (row .fp)
+abbrev pub Rule28 : List ℕ → Process → Row → ℕ → Type 0
+Rule28 stack process row cfa = Outside stack (process .stack) cfa (row .ra) ⊎ Outside stack (process .stack) cfa (row .fp)
 
 -- ---- the PC asked (`asked-exactly-when`, `nowhere-exactly-when`)
 
@@ -112,19 +113,19 @@ AsksNothing registers = NoMark registers × (registers .pc ≡ 0)
 
 -- ---- "Checks in order": what a step came to
 
-module _ (s stack : List ℕ) (lies : Where) (registers : Registers) where
+module _ (s stack : List ℕ) (process : Process) (registers : Registers) where
   -- "41 .. Then 1 to 15. Lookup at PC.": the checks before the lookup pass, and this holds of d, "PC minus section address", with the PC
   -- asked
   pub record LookedUp (Holds : ℤ → Type 0) : Type 0 where
-    pub fits : WindowFits stack lies
+    pub fits : WindowFits stack process
     pub obeys : Obeys s
     pub pc : ℕ
     pub asked : askedOf registers ≡ At pc
-    pub holds : Holds (distance (lies .section) pc)
+    pub holds : Holds (distance (process .section) pc)
 
   -- "PC 0 without the mark is answered 21, after the section checks, with no lookup made": they pass, and there is no PC to ask
   pub record NothingAsked : Type 0 where
-    pub fits : WindowFits stack lies
+    pub fits : WindowFits stack process
     pub obeys : Obeys s
     pub asked : askedOf registers ≡ Nowhere
 
@@ -135,7 +136,7 @@ module _ (s stack : List ℕ) (lies : Where) (registers : Registers) where
   -- the row's CFA is this: 24 and 25 are past
   pub record CfaAt (row : Row) (cfa : ℕ) : Type 0 where
     pub row-found : RowFound row
-    pub not-24 : ¬ Rule24 (shapeOf s) row
+    pub not-24 : ¬ Rule24 (shapeOf s) row process
     pub cfa-is : CfaIs registers row cfa
 
   -- "a needed word (RA first)": 26 and 27 are past
@@ -151,39 +152,42 @@ module _ (s stack : List ℕ) (lies : Where) (registers : Registers) where
   OnRefusal (unfound noFunction) = LookedUp (NoneCovers s) ⊎ NothingAsked
   OnRefusal (unfound dispute) = LookedUp (SomeTwoCover s)
   OnRefusal (unfound noRow) = LookedUp (λ d. (i : ℕ) × NoRowCase s d i)
-  OnRefusal signed = (row : Row) × RowFound row × Rule24 (shapeOf s) row
-  OnRefusal cfaOutside = (row : Row) × RowFound row × ¬ Rule24 (shapeOf s) row × Rule25 registers row
+  OnRefusal signed = (row : Row) × RowFound row × Rule24 (shapeOf s) row process
+  OnRefusal cfaOutside = (row : Row) × RowFound row × ¬ Rule24 (shapeOf s) row process × Rule25 registers row
   OnRefusal cfaLow = (row : Row) × (cfa : ℕ) × CfaAt row cfa × Rule26 registers cfa
   OnRefusal raLost = (row : Row) × (cfa : ℕ) × CfaAt row cfa × ¬ Rule26 registers cfa × Rule27 registers row
-  OnRefusal wordOutside = (row : Row) × (cfa : ℕ) × WordsAt row cfa × Rule28 stack lies row cfa
+  OnRefusal wordOutside = (row : Row) × (cfa : ℕ) × WordsAt row cfa × Rule28 stack process row cfa
 
   -- what holds where a step gives the number of this cause
   abbrev pub OnStep : StepCause → Type 0
-  OnStep window = Rule41 stack lies
-  OnStep (unsound rule) = WindowFits stack lies × BrokenFirst s rule
+  OnStep window = Rule41 stack process
+  OnStep (unsound rule) = WindowFits stack process × BrokenFirst s rule
   OnStep (refused refusal) = OnRefusal refusal
 
   -- ---- every answer
 
-  -- "The caller has PC = RA, SP = CFA, the new FP, LR unchanged and no mark."
+  -- "The caller has PC = RA, SP = CFA, the new FP, LR unchanged and no mark."; RA as it is read, and "has the mask's bits cleared .. ,
+  -- wherever RA came from"
   pub record CallerCase (caller : Registers) : Type 0 where
     pub row : Row
     pub cfa : ℕ
     pub words-at : WordsAt row cfa
-    pub pc-is : ValueIs stack (lies .stack) (shapeOf s .order) cfa (registers .lr) (row .ra) (caller .pc)
+    pub ra : ℕ
+    pub ra-is : ValueIs stack (process .stack) (shapeOf s .order) cfa (registers .lr) (row .ra) ra
+    pub pc-is : caller .pc ≡ clear (maskOf (shapeOf s) row process) ra
     pub sp-is : caller .sp ≡ callerSp cfa
-    pub fp-is : ValueIs stack (lies .stack) (shapeOf s .order) cfa (registers .fp) (row .fp) (caller .fp)
+    pub fp-is : ValueIs stack (process .stack) (shapeOf s .order) cfa (registers .fp) (row .fp) (caller .fp)
     pub lr-is : caller .lr ≡ registers .lr
     pub first-is : caller .first ≡ 0
 
   -- "for 1 to 15 the entry's index"
   abbrev pub UnsoundCase : ℕ → ℕ → Type 0
-  UnsoundCase number index = WindowFits stack lies × (rule : Rule) × (number ≡ numberOfRule rule) × accept.Given s rule index
+  UnsoundCase number index = WindowFits stack process × (rule : Rule) × (number ≡ numberOfRule rule) × accept.Given s rule index
 
   -- 41, or the step's own
   abbrev pub RefusedCase : ℕ → Type 0
   RefusedCase number =
-      ((number ≡ numberOfStepCause window) × Rule41 stack lies)
+      ((number ≡ numberOfStepCause window) × Rule41 stack process)
       ⊎ ((refusal : Refusal) × (number ≡ numberOfRefusal refusal) × OnRefusal refusal)
 
   -- what holds where this is the answer; "a refusal hands back the old ones with its number"

@@ -18,11 +18,13 @@ pub struct Registers {
     pub first: u64,
 }
 
-// Where the section and the stack window lie.
+// What is known of the crashed process beside its registers: where its section and the stack window lie, and which bits of a signed
+// return address are the signature, 0 where that is not known.
 #[repr(C)]
-pub struct Where {
+pub struct Process {
     pub section: u64,
     pub stack: u64,
+    pub mask: u64,
 }
 
 // The PC that is looked up, or that there is none to look up.

@@ -6,13 +6,16 @@ use crate::place::is_lost;
 use crate::place::spot_of;
 use crate::place::values_at;
 use crate::registers::Asked;
+use crate::registers::Process;
 use crate::registers::Registers;
 use crate::registers::Step;
-use crate::registers::Where;
 use crate::registers::asked_of;
 use crate::registers::caller_sp;
 use crate::registers::cfa_of;
 use crate::registers::is_low;
+use crate::signature::clear;
+use crate::signature::is_maskless;
+use crate::signature::mask_of;
 use accept::section_check::check;
 use accept::verdict::Verdict;
 use lookup::answer::Outcome;
@@ -29,23 +32,14 @@ ghost use Rattle.section.specs.Meaning.{shapeOf};
 ghost use Rattle.lookup.specs.Finding.{findingOf};
 ghost use Rattle.lookup.specs.computed.Answers.{lookIn};
 ghost use Rattle.lookup.specs.inner.Requires.{AcceptedOf};
-ghost use Rattle.caller.specs.computed.Caller.{isSigned, withValues, fromSpots, fromCfa, fromRow, fromFinding, stepOf, stepIn};
-
-// Whether the return address is signed, where the machine signs any.
-fn is_signed(shape: Shape, row: Row) -> bool
-    ensures { λ r. ⌜ r ≡ isSigned shape row ⌝ }
-{
-    if shape.signs {
-        return row.signed;
-    }
-    false
-}
+ghost use Rattle.caller.specs.computed.Caller.{withValues, fromSpots, fromCfa, fromRow, fromFinding, stepOf, stepIn};
 
 impl Registers {
-    // 28, or the caller.
-    fn with_values(self, cfa: u64, values: Values) -> Step
-        ensures { λ r. ⌜ r ≡ withValues self cfa values ⌝ }
+    // 28, or the caller: its PC is RA without the bits of the mask, wherever RA came from.
+    fn with_values(self, mask: u64, cfa: u64, values: Values) -> Step
+        ensures { λ r. ⌜ r ≡ withValues self mask cfa values ⌝ }
     {
+        let lr = self.lr;
         match values {
             Values::NoRa => Step::Refused {
                 old: self,
@@ -56,10 +50,10 @@ impl Registers {
                 number: 28,
             },
             Values::Both(ra, fp) => Step::Caller(Registers {
-                pc: ra,
+                pc: clear(mask, ra),
                 sp: caller_sp(cfa),
                 fp: fp,
-                lr: self.lr,
+                lr: lr,
                 first: 0,
             }),
         }
@@ -70,12 +64,13 @@ impl Registers {
         self,
         shape: Shape,
         stack: &[u8],
-        lies: Where,
+        process: Process,
+        mask: u64,
         cfa: u64,
         ra: Spot,
         fp: Spot,
     ) -> Step
-        ensures { λ r. ⌜ r ≡ fromSpots shape (now (stack .entry)) lies self cfa ra fp ⌝ }
+        ensures { λ r. ⌜ r ≡ fromSpots shape (now (stack .entry)) process self mask cfa ra fp ⌝ }
     {
         if is_lost(self, ra) {
             return Step::Refused {
@@ -84,12 +79,16 @@ impl Registers {
             };
         }
         let order = shape.order;
-        self.with_values(cfa, values_at(stack, lies.stack, order, self, ra, fp))
+        self.with_values(
+            mask,
+            cfa,
+            values_at(stack, process.stack, order, self, ra, fp),
+        )
     }
 
     // 26, then the places of RA and FP.
-    fn from_cfa(self, shape: Shape, stack: &[u8], lies: Where, row: Row, cfa: u64) -> Step
-        ensures { λ r. ⌜ r ≡ fromCfa shape (now (stack .entry)) lies self row cfa ⌝ }
+    fn from_cfa(self, shape: Shape, stack: &[u8], process: Process, row: Row, cfa: u64) -> Step
+        ensures { λ r. ⌜ r ≡ fromCfa shape (now (stack .entry)) process self row cfa ⌝ }
     {
         if is_low(self, caller_sp(cfa)) {
             return Step::Refused {
@@ -99,14 +98,23 @@ impl Registers {
         }
         let ra = row.ra;
         let fp = row.fp;
-        self.from_spots(shape, stack, lies, cfa, spot_of(cfa, ra), spot_of(cfa, fp))
+        let mask = mask_of(shape, row, process);
+        self.from_spots(
+            shape,
+            stack,
+            process,
+            mask,
+            cfa,
+            spot_of(cfa, ra),
+            spot_of(cfa, fp),
+        )
     }
 
     // The step that a row defines, with no section at hand: 24, 25 and what follows.
-    pub fn from_row(self, shape: Shape, stack: &[u8], lies: Where, row: Row) -> Step
-        ensures { λ r. ⌜ r ≡ fromRow shape (now (stack .entry)) lies self row ⌝ }
+    pub fn from_row(self, shape: Shape, stack: &[u8], process: Process, row: Row) -> Step
+        ensures { λ r. ⌜ r ≡ fromRow shape (now (stack .entry)) process self row ⌝ }
     {
-        if is_signed(shape, row) {
+        if is_maskless(shape, row, process) {
             return Step::Refused {
                 old: self,
                 number: 24,
@@ -117,20 +125,20 @@ impl Registers {
                 old: self,
                 number: 25,
             },
-            Address::At(cfa) => self.from_cfa(shape, stack, lies, row, cfa),
+            Address::At(cfa) => self.from_cfa(shape, stack, process, row, cfa),
         }
     }
 
     // The step from what a lookup found.
-    fn from_outcome(self, shape: Shape, stack: &[u8], lies: Where, outcome: Outcome) -> Step
-        ensures { λ r. ⌜ r ≡ fromFinding shape (now (stack .entry)) lies self (findingOf outcome) ⌝ }
+    fn from_outcome(self, shape: Shape, stack: &[u8], process: Process, outcome: Outcome) -> Step
+        ensures { λ r. ⌜ r ≡ fromFinding shape (now (stack .entry)) process self (findingOf outcome) ⌝ }
     {
         match outcome {
             Outcome::Found {
                 row,
                 function,
                 number,
-            } => self.from_row(shape, stack, lies, row),
+            } => self.from_row(shape, stack, process, row),
             Outcome::Unsound { number, index } => Step::Refused {
                 old: self,
                 number: number,
@@ -151,9 +159,15 @@ impl Registers {
     }
 
     // The step on a section that was checked before: one check serves a whole trace.
-    pub fn step_checked(self, section: &[u8], layout: Layout, stack: &[u8], lies: Where) -> Step
+    pub fn step_checked(
+        self,
+        section: &[u8],
+        layout: Layout,
+        stack: &[u8],
+        process: Process,
+    ) -> Step
         requires { ⌜ AcceptedOf (now section) layout ⌝ }
-        ensures { λ r. ⌜ r ≡ stepOf (shapeOf (now (section .entry))) (lookIn (now (section .entry)) (lies .section)) (now (stack .entry)) lies self ⌝ }
+        ensures { λ r. ⌜ r ≡ stepOf (shapeOf (now (section .entry))) (lookIn (now (section .entry)) (process .section)) (now (stack .entry)) process self ⌝ }
     {
         let Asked::At(pc) = asked_of(self) else {
             return Step::Refused {
@@ -161,17 +175,17 @@ impl Registers {
                 number: 21,
             };
         };
-        let answer = look(section, layout, lies.section, pc);
+        let answer = look(section, layout, process.section, pc);
         let outcome = answer.outcome;
         let abi = layout.abi;
-        self.from_outcome(shape_of(abi), stack, lies, outcome)
+        self.from_outcome(shape_of(abi), stack, process, outcome)
     }
 
     // The step on any bytes, stack and registers: 41 and 1 to 15 first.
-    pub fn step(self, section: &[u8], stack: &[u8], lies: Where) -> Step
-        ensures { λ r. ⌜ r ≡ stepIn (now (section .entry)) (now (stack .entry)) lies self ⌝ }
+    pub fn step(self, section: &[u8], stack: &[u8], process: Process) -> Step
+        ensures { λ r. ⌜ r ≡ stepIn (now (section .entry)) (now (stack .entry)) process self ⌝ }
     {
-        if !window_fits(stack, lies.stack) {
+        if !window_fits(stack, process.stack) {
             return Step::Refused {
                 old: self,
                 number: 41,
@@ -183,7 +197,7 @@ impl Registers {
                 number: number,
                 index: index,
             },
-            Verdict::Accepted => self.step_checked(section, layout_at(section), stack, lies),
+            Verdict::Accepted => self.step_checked(section, layout_at(section), stack, process),
         }
     }
 }

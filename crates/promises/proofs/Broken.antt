@@ -26,7 +26,7 @@ use Rattle.lookup.proofs.NumberLaws.{lookup-given}
 use Rattle.caller.specs.Cases.{Rule41}
 use Rattle.caller.specs.Numbers.{numberOfStepCause}
 use Rattle.caller.specs.declared.registers.Registers.{Registers}
-use Rattle.caller.specs.declared.registers.Where.{Where}
+use Rattle.caller.specs.declared.registers.Process.{Process}
 use Rattle.trace.specs.Cases.{noFrame}
 use Rattle.trace.specs.Frames.{allWords, over, wordsOf, tracedAs}
 use Rattle.trace.specs.Numbers.{window, numberOfTraceCause, endingNumber}
@@ -50,33 +50,33 @@ use Rattle.promises.proofs.TableHolds.{table-holds}
 
 table-K1 : verdict sectionS ≡ Accepted
 unfolding ours replyTo agreed table
-table-K1 = let holds = table-holds 0 0 7 7 7 7 7 7 .0 in cc
+table-K1 = let holds = table-holds 0 0 0 7 7 7 7 7 7 .0 in cc
 
 table-K4 : lookupOf sectionS 0x400000 0x401003 ≡ (record { outcome = Found atEntry 0 0; compared = 2 })
 unfolding ours replyTo at agreed table
-table-K4 = let holds = table-holds 0 0 7 7 7 7 7 7 .1 .1 .1 .0 in cc
+table-K4 = let holds = table-holds 0 0 0 7 7 7 7 7 7 .1 .1 .1 .0 in cc
 
 table-K5 : lookupOf sectionS 0x400000 0x401004 ≡ (record { outcome = Found withFrame 0 1; compared = 2 })
 unfolding ours replyTo at agreed table
-table-K5 = let holds = table-holds 0 0 7 7 7 7 7 7 .1 .1 .1 .1 .0 in cc
+table-K5 = let holds = table-holds 0 0 0 7 7 7 7 7 7 .1 .1 .1 .1 .0 in cc
 
 table-K7 : lookupOf sectionS 0x400000 0x401040 ≡ (record { outcome = Found atEntry 1 0; compared = 1 })
 unfolding ours replyTo at agreed table
-table-K7 = let holds = table-holds 0 0 7 7 7 7 7 7 .1 .1 .1 .1 .1 .1 .1 .1 .1 .0 in cc
+table-K7 = let holds = table-holds 0 0 0 7 7 7 7 7 7 .1 .1 .1 .1 .1 .1 .1 .1 .1 .0 in cc
 
 sevens : List ℕ
 sevens = 7 ∷ 7 ∷ 7 ∷ 7 ∷ 7 ∷ 7 ∷ []
 
-table-K10 : traceOf sectionS stackWindow loaded (crashed 0 0) 2 sevens
+table-K10 : traceOf sectionS stackWindow (loaded 0) (crashed 0 0) 2 sevens
     ≡ tracedAs (record { ending = Outermost; frames = 2 }) (0x7008 ∷ 0x401008 ∷ 0x7030 ∷ 0x7040 ∷ 0 ∷ 0 ∷ [])
 unfolding ours replyTo agreed table sevens
-table-K10 = let holds = table-holds 0 0 7 7 7 7 7 7 .1 .1 .1 .1 .1 .1 .1 .1 .1 .1 .1 .1 .1 .0 in cc
+table-K10 = let holds = table-holds 0 0 0 7 7 7 7 7 7 .1 .1 .1 .1 .1 .1 .1 .1 .1 .1 .1 .1 .1 .0 in cc
 
 -- K10 with another stack: the word at 0x7030 is 1, so that the second frame has FP 1
 otherStack : List ℕ
 otherStack = set stackWindow 48 1
 
-other-K10 : traceOf sectionS otherStack loaded (crashed 0 0) 2 sevens
+other-K10 : traceOf sectionS otherStack (loaded 0) (crashed 0 0) 2 sevens
     ≡ tracedAs (record { ending = Outermost; frames = 2 }) (0x7008 ∷ 0x401008 ∷ 0x7030 ∷ 0x7040 ∷ 0 ∷ 1 ∷ [])
 unfolding traceOpened sectionS stackWindow otherStack loaded crashed sevens
 other-K10 = refl
@@ -85,7 +85,7 @@ other-K10 = refl
 wrongSum : List ℕ
 wrongSum = set sectionS 12 4
 
-sum-refused : traceOf wrongSum stackWindow loaded (crashed 0 0) 2 sevens .answer .ending ≡ Unsound 15 0
+sum-refused : traceOf wrongSum stackWindow (loaded 0) (crashed 0 0) 2 sevens .answer .ending ≡ Unsound 15 0
 unfolding traceOpened sectionS wrongSum stackWindow loaded crashed sevens
 sum-refused = refl
 
@@ -148,18 +148,18 @@ module _ (calls : Calls) where
 
   -- ---- "a trace that writes nothing (demand 2, K10)"
 
-  is-K10 : Demand2 calls → calls .trace sectionS stackWindow loaded (crashed 0 0) 2 sevens
+  is-K10 : Demand2 calls → calls .trace sectionS stackWindow (loaded 0) (crashed 0 0) 2 sevens
       ≡ tracedAs (record { ending = Outermost; frames = 2 }) (0x7008 ∷ 0x401008 ∷ 0x7030 ∷ 0x7040 ∷ 0 ∷ 0 ∷ [])
-  is-K10 demand = traces-as-ours calls demand sectionS stackWindow loaded (crashed 0 0) 2 sevens ∙ table-K10
+  is-K10 demand = traces-as-ours calls demand sectionS stackWindow (loaded 0) (crashed 0 0) 2 sevens ∙ table-K10
 
-  is-other : Demand2 calls → calls .trace sectionS otherStack loaded (crashed 0 0) 2 sevens
+  is-other : Demand2 calls → calls .trace sectionS otherStack (loaded 0) (crashed 0 0) 2 sevens
       ≡ tracedAs (record { ending = Outermost; frames = 2 }) (0x7008 ∷ 0x401008 ∷ 0x7030 ∷ 0x7040 ∷ 0 ∷ 1 ∷ [])
-  is-other demand = traces-as-ours calls demand sectionS otherStack loaded (crashed 0 0) 2 sevens ∙ other-K10
+  is-other demand = traces-as-ours calls demand sectionS otherStack (loaded 0) (crashed 0 0) 2 sevens ∙ other-K10
 
   pub writes-nothing-breaks-2 : WritesNothing calls → ¬ Demand2 calls
   unfolding tracedAs sevens
   writes-nothing-breaks-2 nothing demand =
-      let same = sym (nothing sectionS stackWindow loaded (crashed 0 0) 2 sevens) ∙ ap (λ t. t .words) (is-K10 demand) in
+      let same = sym (nothing sectionS stackWindow (loaded 0) (crashed 0 0) 2 sevens) ∙ ap (λ t. t .words) (is-K10 demand) in
       let z : _≡_ {A = ℕ} 7 0x7008 = ap (λ words. getD words 0 0) same in
       omega arith
 
@@ -168,18 +168,18 @@ module _ (calls : Calls) where
   pub repeats-frames-breaks-2 : RepeatsFrames calls → ¬ Demand2 calls
   unfolding tracedAs sevens allWords wordsOf over
   repeats-frames-breaks-2 repeats demand =
-      let (frame, is) = repeats sectionS stackWindow loaded (crashed 0 0) 2 sevens in
+      let (frame, is) = repeats sectionS stackWindow (loaded 0) (crashed 0 0) 2 sevens in
       let words = rw (is-K10 demand) at is in
       let first : 0x7008 ≡ frame .cfa = ap (λ words. getD words 0 0) words in
       let second : 0x7040 ≡ frame .cfa = ap (λ words. getD words 3 0) words in
       omega (arith, first, second)
 
-  pub invents-frames-breaks-2 : (made : List ℕ → Where → Registers → ℕ → List ℕ → List Frame) → InventsFrames calls made → ¬ Demand2 calls
+  pub invents-frames-breaks-2 : (made : List ℕ → Process → Registers → ℕ → List ℕ → List Frame) → InventsFrames calls made → ¬ Demand2 calls
   unfolding tracedAs sevens allWords wordsOf over
   invents-frames-breaks-2 made invents demand =
-      let (frame, is) = invents sectionS stackWindow loaded (crashed 0 0) 2 sevens in
-      let (other, too) = invents sectionS otherStack loaded (crashed 0 0) 2 sevens in
-      by (made sectionS loaded (crashed 0 0) 2 sevens) (rw (is-K10 demand) at is) (rw (is-other demand) at too)
+      let (frame, is) = invents sectionS stackWindow (loaded 0) (crashed 0 0) 2 sevens in
+      let (other, too) = invents sectionS otherStack (loaded 0) (crashed 0 0) 2 sevens in
+      by (made sectionS (loaded 0) (crashed 0 0) 2 sevens) (rw (is-K10 demand) at is) (rw (is-other demand) at too)
     where
       by : {frame other : Frame} (made : List Frame)
           → (0x7008 ∷ 0x401008 ∷ 0x7030 ∷ 0x7040 ∷ 0 ∷ 0 ∷ []) ≡ over (allWords (take 2 (frame ∷ made))) sevens
@@ -196,7 +196,7 @@ module _ (calls : Calls) where
   pub writes-on-41-breaks-1 : WritesOn calls 41 → ¬ Demand1 calls
   unfolding numberOfTraceCause numberOfStepCause
   writes-on-41-breaks-1 writes demand =
-      let past : Where = record { section = 0; stack = 2 ^ 64 } in
+      let past : Process = record { section = 0; stack = 2 ^ 64; mask = 0 } in
       let above : Rule41 (0 ∷ []) past = omega arith in
       let refuses = demand .trace [] (0 ∷ []) past (crashed 0 0) 2 sevens in
       writes [] (0 ∷ []) past (crashed 0 0) 2 sevens (refuses .given window .1 above)
@@ -205,10 +205,10 @@ module _ (calls : Calls) where
   pub writes-on-15-breaks-1 : WritesOn calls 15 → ¬ Demand1 calls
   unfolding numberOfRule endingNumber
   writes-on-15-breaks-1 writes demand =
-      let refuses = demand .trace wrongSum stackWindow loaded (crashed 0 0) 2 sevens in
-      let given = unsound-exactly-when wrongSum stackWindow loaded (crashed 0 0) 2 sevens rowSum 0 .0 sum-refused in
+      let refuses = demand .trace wrongSum stackWindow (loaded 0) (crashed 0 0) 2 sevens in
+      let given = unsound-exactly-when wrongSum stackWindow (loaded 0) (crashed 0 0) 2 sevens rowSum 0 .0 sum-refused in
       let is = refuses .carries rowSum 0 .1 given in
-      writes wrongSum stackWindow loaded (crashed 0 0) 2 sevens (ap endingNumber is) (refuses .leaves .unsound 15 0 is .1)
+      writes wrongSum stackWindow (loaded 0) (crashed 0 0) 2 sevens (ap endingNumber is) (refuses .leaves .unsound 15 0 is .1)
 
 -- ---- there are such calls
 
@@ -230,19 +230,19 @@ counting-by-counts count s address pc = refl
 
 pub writing-nothing-writes : WritesNothing writingNothing
 unfolding writingNothing leaving tracedAs
-writing-nothing-writes s stack lies registers limit old = refl
+writing-nothing-writes s stack process registers limit old = refl
 
 pub repeating-frames-repeats : RepeatsFrames repeatingFrames
 unfolding repeatingFrames leaving traceOf traced tracedAs
-repeating-frames-repeats s stack lies registers limit old = (getD (framesOf s stack lies registers limit old) 0 noFrame, refl)
+repeating-frames-repeats s stack process registers limit old = (getD (framesOf s stack process registers limit old) 0 noFrame, refl)
 
-pub inventing-frames-invents : (made : List ℕ → Where → Registers → ℕ → List ℕ → List Frame) → InventsFrames (inventingFrames made) made
+pub inventing-frames-invents : (made : List ℕ → Process → Registers → ℕ → List ℕ → List Frame) → InventsFrames (inventingFrames made) made
 unfolding inventingFrames leaving traceOf traced tracedAs
-inventing-frames-invents made s stack lies registers limit old = (getD (framesOf s stack lies registers limit old) 0 noFrame, refl)
+inventing-frames-invents made s stack process registers limit old = (getD (framesOf s stack process registers limit old) 0 noFrame, refl)
 
 pub writing-on-writes : (number : ℕ) → WritesOn (writingOn number) number
 unfolding writingOn leaving changedWhere tracedAs over
-writing-on-writes number s stack lies registers limit old is same =
+writing-on-writes number s stack process registers limit old is same =
     let words = rw (eq-eqb _ number is, changedWhere) at same in
     let z : suc (getD old 0 0) ≡ getD old 0 0 = ap (λ l. getD l 0 0) words in
     omega arith
@@ -260,8 +260,8 @@ counting-by-meets-2 count =
       in-bytes = demand-2-ours .in-bytes;
       traces = demand-2-ours .traces;
       from-the-last =
-          λ s stack lies registers limit old.
-          let frames = demand-2-ours .from-the-last s stack lies registers limit old in
+          λ s stack process registers limit old.
+          let frames = demand-2-ours .from-the-last s stack process registers limit old in
           record {
             at = frames .at;
             starts = frames .starts;
@@ -279,7 +279,7 @@ pub wrong-calls-broken :
     × (¬ Demand2 answering21)
     × (¬ Demand2 writingNothing)
     × (¬ Demand2 repeatingFrames)
-    × ((made : List ℕ → Where → Registers → ℕ → List ℕ → List Frame) → ¬ Demand2 (inventingFrames made))
+    × ((made : List ℕ → Process → Registers → ℕ → List ℕ → List Frame) → ¬ Demand2 (inventingFrames made))
     × ((count : List ℕ → ℕ) → ¬ Demand3 (countingBy count))
     × (¬ Demand1 (writingOn 41))
     × (¬ Demand1 (writingOn 15))

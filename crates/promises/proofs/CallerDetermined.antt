@@ -23,6 +23,12 @@ use Rattle.caller.proofs.registers.cfa_of_sp.Kinds as cfa_of_sp-kinds
 use Rattle.caller.proofs.registers.cfa_of_sp.Reads as cfa_of_sp-reads
 use Rattle.caller.proofs.registers.is_low.Kinds as is_low-kinds
 use Rattle.caller.proofs.registers.is_low.Reads as is_low-reads
+use Rattle.caller.proofs.signature.clear.Kinds as clear-kinds
+use Rattle.caller.proofs.signature.clear.Reads as clear-reads
+use Rattle.caller.proofs.signature.is_maskless.Kinds as is_maskless-kinds
+use Rattle.caller.proofs.signature.is_maskless.Reads as is_maskless-reads
+use Rattle.caller.proofs.signature.mask_of.Kinds as mask_of-kinds
+use Rattle.caller.proofs.signature.mask_of.Reads as mask_of-reads
 use Rattle.promises.specs.Determined.{Determined}
 
 pub spot_of-determined : Determined spot_of-kinds.ps spot_of-kinds.r spot_of-reads.Learnt
@@ -48,6 +54,15 @@ cfa_of_sp-determined κs a z z′ w w′ p q = (p ∙ sym q, refl)
 
 pub is_low-determined : Determined is_low-kinds.ps is_low-kinds.r is_low-reads.Learnt
 is_low-determined κs a z z′ w w′ p q = (p ∙ sym q, refl)
+
+pub is_maskless-determined : Determined is_maskless-kinds.ps is_maskless-kinds.r is_maskless-reads.Learnt
+is_maskless-determined κs a z z′ w w′ p q = (p ∙ sym q, refl)
+
+pub mask_of-determined : Determined mask_of-kinds.ps mask_of-kinds.r mask_of-reads.Learnt
+mask_of-determined κs a z z′ w w′ p q = (p ∙ sym q, refl)
+
+pub clear-determined : Determined clear-kinds.ps clear-kinds.r clear-reads.Learnt
+clear-determined κs a z z′ w w′ p q = (p ∙ sym q, refl)
 
 pub from_row-determined : Determined from_row-kinds.ps from_row-kinds.r from_row-reads.Learnt
 from_row-determined κs a z z′ w w′ p q = (p ∙ sym q, refl)

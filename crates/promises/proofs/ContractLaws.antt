@@ -7,7 +7,7 @@ use Rattle.accept.specs.computed.Checks.{verdict}
 use Rattle.lookup.specs.computed.Answers.{lookupOf}
 use Rattle.caller.specs.computed.Caller.{stepIn}
 use Rattle.caller.specs.declared.registers.Registers.{Registers}
-use Rattle.caller.specs.declared.registers.Where.{Where}
+use Rattle.caller.specs.declared.registers.Process.{Process}
 use Rattle.trace.specs.Frames.{tracedAs}
 use Rattle.trace.specs.computed.Trace.{traceOf}
 use Rattle.promises.specs.Calls.{Calls}
@@ -46,11 +46,11 @@ module _ (calls : Calls) (keeps : Keeps calls) where
   pub lookup-is : (s : List ℕ) (address pc : ℕ) → calls .lookup s address pc ≡ lookupOf s address pc
   lookup-is s address pc = keeps .lookup ([], tt) (lent somewhere s, (address, (pc, tt)))
 
-  pub step-is : (s stack : List ℕ) (lies : Where) (registers : Registers) → calls .step s stack lies registers ≡ stepIn s stack lies registers
-  step-is s stack lies registers = keeps .step ([], ([], tt)) (registers, (lent somewhere s, (lent somewhere stack, (lies, tt))))
+  pub step-is : (s stack : List ℕ) (process : Process) (registers : Registers) → calls .step s stack process registers ≡ stepIn s stack process registers
+  step-is s stack process registers = keeps .step ([], ([], tt)) (registers, (lent somewhere s, (lent somewhere stack, (process, tt))))
 
-  pub trace-is : (s stack : List ℕ) (lies : Where) (registers : Registers) (limit : ℕ) (old : List ℕ)
-      → calls .trace s stack lies registers limit old ≡ traceOf s stack lies registers limit old
+  pub trace-is : (s stack : List ℕ) (process : Process) (registers : Registers) (limit : ℕ) (old : List ℕ)
+      → calls .trace s stack process registers limit old ≡ traceOf s stack process registers limit old
   unfolding tracedAs
-  trace-is s stack lies registers limit old =
-      keeps .trace ([], ([], ([], tt))) (lent somewhere s, (lent somewhere stack, (lies, (registers, (limit, (lent somewhere old, tt))))))
+  trace-is s stack process registers limit old =
+      keeps .trace ([], ([], ([], tt))) (lent somewhere s, (lent somewhere stack, (process, (registers, (limit, (lent somewhere old, tt))))))

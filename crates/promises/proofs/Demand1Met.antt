@@ -9,7 +9,7 @@ use Rattle.accept.proofs.Exactly.{accepted-exactly-when, given-exactly-when, ob
 use Rattle.lookup.proofs.Exactly as looks
 use Rattle.lookup.proofs.NumberLaws as lookup
 use Rattle.caller.specs.declared.registers.Registers.{Registers}
-use Rattle.caller.specs.declared.registers.Where.{Where}
+use Rattle.caller.specs.declared.registers.Process.{Process}
 use Rattle.caller.proofs.Exactly as steps
 use Rattle.trace.specs.computed.Trace.{traceOf}
 use Rattle.trace.proofs.Exactly as traces
@@ -50,42 +50,42 @@ lookup-refuses s address pc =
           looks.count-refused s address pc (numberOfRule rule) index (given-exactly-when s rule index .1 given);
     }
 
-step-refuses : (s stack : List ℕ) (lies : Where) (registers : Registers) → StepRefuses ours s stack lies registers
+step-refuses : (s stack : List ℕ) (process : Process) (registers : Registers) → StepRefuses ours s stack process registers
 unfolding ours
-step-refuses s stack lies registers =
+step-refuses s stack process registers =
     record {
-      given = steps.number-exactly-when s stack lies registers;
+      given = steps.number-exactly-when s stack process registers;
       known =
           ⊎-elim
-          (λ h. inl (h .0, steps.caller-exactly-when s stack lies registers (h .0) .1 (h .1)))
-          (λ h. inr (h .0, steps.number-exactly-when s stack lies registers (h .0) .1 (h .1)))
-          (steps.caller-or-cause s stack lies registers);
-      carries = steps.unsound-exactly-when s stack lies registers;
-      indexed = steps.index-exactly-when s stack lies registers;
-      old = steps.old-handed-back s stack lies registers;
+          (λ h. inl (h .0, steps.caller-exactly-when s stack process registers (h .0) .1 (h .1)))
+          (λ h. inr (h .0, steps.number-exactly-when s stack process registers (h .0) .1 (h .1)))
+          (steps.caller-or-cause s stack process registers);
+      carries = steps.unsound-exactly-when s stack process registers;
+      indexed = steps.index-exactly-when s stack process registers;
+      old = steps.old-handed-back s stack process registers;
     }
 
-module _ (s stack : List ℕ) (lies : Where) (registers : Registers) (limit : ℕ) (old : List ℕ) where
-  trace-leaves : BufferLeft (traceOf s stack lies registers limit old) old
+module _ (s stack : List ℕ) (process : Process) (registers : Registers) (limit : ℕ) (old : List ℕ) where
+  trace-leaves : BufferLeft (traceOf s stack process registers limit old) old
   trace-leaves =
       record {
-        shut = traces.door-writes-nothing s stack lies registers limit old;
-        unsound = traces.unsound-writes-nothing s stack lies registers limit old;
-        kept = traces.words-kept s stack lies registers limit old;
-        as-many = traces.words-length s stack lies registers limit old;
+        shut = traces.door-writes-nothing s stack process registers limit old;
+        unsound = traces.unsound-writes-nothing s stack process registers limit old;
+        kept = traces.words-kept s stack process registers limit old;
+        as-many = traces.words-length s stack process registers limit old;
       }
 
-  trace-refuses : TraceRefuses ours s stack lies registers limit old
+  trace-refuses : TraceRefuses ours s stack process registers limit old
   unfolding ours
   trace-refuses =
       record {
-        given = traces.number-exactly-when s stack lies registers limit old;
+        given = traces.number-exactly-when s stack process registers limit old;
         known =
-            let (cause, on) = traces.some-cause s stack lies registers limit old in
-            (cause, traces.number-exactly-when s stack lies registers limit old cause .1 on);
-        at-door = traces.door-exactly-when s stack lies registers limit old;
-        carries = traces.unsound-exactly-when s stack lies registers limit old;
-        indexed = traces.index-exactly-when s stack lies registers limit old;
+            let (cause, on) = traces.some-cause s stack process registers limit old in
+            (cause, traces.number-exactly-when s stack process registers limit old cause .1 on);
+        at-door = traces.door-exactly-when s stack process registers limit old;
+        carries = traces.unsound-exactly-when s stack process registers limit old;
+        indexed = traces.index-exactly-when s stack process registers limit old;
         leaves = trace-leaves;
       }
 

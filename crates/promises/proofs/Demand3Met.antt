@@ -17,7 +17,7 @@ use Rattle.lookup.proofs.Exactly.{count-unsorted, count-halving, count-log, cou
 use Rattle.caller.specs.computed.Caller as caller
 use Rattle.caller.specs.computed.Caller.{stepIn}
 use Rattle.caller.specs.declared.registers.Registers.{Registers}
-use Rattle.caller.specs.declared.registers.Where.{Where}
+use Rattle.caller.specs.declared.registers.Process.{Process}
 use Rattle.caller.proofs.Exactly.{through-look}
 use Rattle.trace.proofs.Exactly.{trace-through-look}
 use Rattle.promises.specs.Demand3.{Alike, Counts, Demand3}
@@ -57,11 +57,11 @@ module _ (s t : List ℕ) (alike : Alike ours s t) where
   rows-same address pc =
       finding-is s accepted-s address pc ∙ looks-same address pc ∙ sym (finding-is t accepted-t address pc)
 
-  callers-same : (stack : List ℕ) (lies : Where) (registers : Registers) → stepIn s stack lies registers ≡ stepIn t stack lies registers
+  callers-same : (stack : List ℕ) (process : Process) (registers : Registers) → stepIn s stack process registers ≡ stepIn t stack process registers
   unfolding stepIn caller.ifFits caller.stepAfter
-  callers-same stack lies registers =
-      let through = through-look s t (lies .section) (lies .section) (same-shape s t (alike .same)) (looks-same (lies .section)) in
-      by-value (windowFits stack (lies .stack))
+  callers-same stack process registers =
+      let through = through-look s t (process .section) (process .section) (same-shape s t (alike .same)) (looks-same (process .section)) in
+      by-value (windowFits stack (process .stack))
       (λ fits. rw (fits, caller.ifFits) (rw (accepted-s, accepted-t, through)))
       (λ past. rw (past, caller.ifFits))
 
@@ -80,9 +80,9 @@ demand-3-ours =
       rows = rows-same;
       callers = λ s t stack alike. callers-same s t alike stack;
       traces =
-          λ s t stack alike lies registers limit old.
-          trace-through-look s t stack lies registers limit old (accepted-s s t alike) (accepted-t s t alike) (same-shape s t (alike .same))
-          (looks-same s t alike (lies .section));
+          λ s t stack alike process registers limit old.
+          trace-through-look s t stack process registers limit old (accepted-s s t alike) (accepted-t s t alike) (same-shape s t (alike .same))
+          (looks-same s t alike (process .section));
       counts = counts-ours;
       sorted-counts = counts-same;
     }

@@ -8,11 +8,11 @@ use Rattle.suntimpani.specs.Flat.{handedAs}
 use Rattle.suntimpani.proofs.Lossless.{check-read-back, lookup-read-back, caller-read-back, trace-read-back}
 use Rattle.promises.specs.Contracts.{Keeps}
 use Rattle.promises.specs.Exported.{FlatCalls, readCalls, flatCalls, exported, FlatKeeps, FlatGivenBy, FlatDemands, FlatPromised}
-use Rattle.promises.specs.Table.{Holds, table, aarch64Table, lastCallTable}
+use Rattle.promises.specs.Table.{Holds, table, aarch64Table, lastCallTable, signedTable}
 use Rattle.promises.specs.computed.Ours.{ours}
 use Rattle.promises.specs.inner.Lent.{lent}
 use Rattle.promises.proofs.ContractLaws.{contracts-kept, somewhere}
-use Rattle.promises.proofs.Kept.{promises-kept, table-kept, aarch64-kept, last-calls-kept}
+use Rattle.promises.proofs.Kept.{promises-kept, table-kept, aarch64-kept, last-calls-kept, signed-rows-kept}
 use Rattle.promises.proofs.NoChoice.{demands-ours-alone}
 use Rattle.promises.proofs.SameCalls.{same-calls}
 
@@ -46,9 +46,9 @@ kept-are-exported flat keeps =
     same-calls flat exported
     (λ s. keeps .check ([], tt) (lent somewhere s, tt))
     (λ s address pc. keeps .lookup ([], tt) (lent somewhere s, (address, (pc, tt))))
-    (λ s stack lies registers. keeps .step ([], ([], tt)) (lent somewhere s, (lent somewhere stack, (lies, (registers, tt)))))
-    (λ s stack lies registers limit old.
-    keeps .trace ([], ([], ([], tt))) (lent somewhere s, (lent somewhere stack, (lies, (registers, (limit, (lent somewhere old, tt)))))))
+    (λ s stack process registers. keeps .step ([], ([], tt)) (lent somewhere s, (lent somewhere stack, (process, (registers, tt)))))
+    (λ s stack process registers limit old.
+    keeps .trace ([], ([], ([], tt))) (lent somewhere s, (lent somewhere stack, (process, (registers, (limit, (lent somewhere old, tt)))))))
 
 -- ---- and stand for ours
 
@@ -68,15 +68,18 @@ module _ (flat : FlatCalls) (keeps : FlatKeeps flat) where
   unfolding exported
   flat-is-flattened = kept-are-exported flat keeps ∙ ap flatCalls (sym read-is-ours)
 
-  -- K1 to K12, the AArch64 examples and those of request 03, as a program in C reads them
-  pub table-exported : (lr first a b c d e f : ℕ) → Holds (readCalls flat) (table lr first a b c d e f)
+  -- K1 to K12, the AArch64 examples and those of requests 03 and 04, as a program in C reads them
+  pub table-exported : (mask lr first a b c d e f : ℕ) → Holds (readCalls flat) (table mask lr first a b c d e f)
   table-exported = table-kept (readCalls flat) read-keeps
 
-  pub aarch64-exported : Holds (readCalls flat) aarch64Table
+  pub aarch64-exported : (mask : ℕ) → Holds (readCalls flat) (aarch64Table mask)
   aarch64-exported = aarch64-kept (readCalls flat) read-keeps
 
   pub last-calls-exported : Holds (readCalls flat) lastCallTable
   last-calls-exported = last-calls-kept (readCalls flat) read-keeps
+
+  pub signed-rows-exported : (a b c d e f : ℕ) → Holds (readCalls flat) (signedTable a b c d e f)
+  signed-rows-exported = signed-rows-kept (readCalls flat) read-keeps
 
 pub exports-promised : FlatPromised
 exports-promised flat keeps =

@@ -36,6 +36,7 @@ pub mod RunLaws
 pub mod SameCalls
 pub mod SameListings
 pub mod SectionDetermined
+pub mod SignedKept
 pub mod SortedLaws
 pub mod SuntimpaniDetermined
 pub mod TableHolds

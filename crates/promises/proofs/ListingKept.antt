@@ -249,7 +249,7 @@ reader-called section i =
     record {
       within = ([], tt);
       during = λ k. ([], ([], tt));
-      lies = λ k. somewhere;
+      process = λ k. somewhere;
       made = (refl, refl);
       turns = λ k. (refl, refl);
     }

@@ -21,7 +21,7 @@ use Rattle.caller.specs.computed.Caller.{stepIn}
 use Rattle.caller.specs.declared.registers.Registers.{Registers}
 use Rattle.caller.specs.declared.registers.Step.{Step}
 use Rattle.caller.specs.declared.registers.Step.the-variants.{Caller, Unsound, Refused}
-use Rattle.caller.specs.declared.registers.Where.{Where}
+use Rattle.caller.specs.declared.registers.Process.{Process}
 use Rattle.caller.proofs.Exactly.{step-exactly-when, unsound-exactly-when, caller-exactly-when, number-0-exactly-when}
 use Rattle.caller.proofs.NumberLaws.{step-due}
 use Rattle.trace.specs.computed.Trace.{traceOf}
@@ -43,12 +43,12 @@ module _ (calls : Calls) (demand : Demand2 calls) where
       demand .finds s (accepted-exactly-when s .0 accepted) address pc (lookupOf s address pc .outcome) .1
       (answer-exactly-when s accepted address pc (lookupOf s address pc .outcome) .0 refl)
 
-  pub traces-as-ours : (s stack : List ℕ) (lies : Where) (registers : Registers) (limit : ℕ) (old : List ℕ)
-      → calls .trace s stack lies registers limit old ≡ traceOf s stack lies registers limit old
+  pub traces-as-ours : (s stack : List ℕ) (process : Process) (registers : Registers) (limit : ℕ) (old : List ℕ)
+      → calls .trace s stack process registers limit old ≡ traceOf s stack process registers limit old
   unfolding leftBy
-  traces-as-ours s stack lies registers limit old =
-      let traces = demand .traces s stack lies registers limit old in
-      traces .left ∙ sym (case-answers s stack lies registers limit old (traces .frames) (traces .ending) (traces .case))
+  traces-as-ours s stack process registers limit old =
+      let traces = demand .traces s stack process registers limit old in
+      traces .left ∙ sym (case-answers s stack process registers limit old (traces .frames) (traces .ending) (traces .case))
 
 pub counts-as-ours : (calls : Calls) → Demand3 calls → (s : List ℕ) → verdict s ≡ Accepted → layoutOf s .sorted ≡ true → (address pc : ℕ)
     → calls .lookup s address pc .compared ≡ lookupOf s address pc .compared
@@ -98,52 +98,52 @@ module _ (calls : Calls) (demands : Demands calls) where
   lookup-as-ours s address pc i =
       record { outcome = outcome-as-ours s address pc i; compared = count-as-ours s address pc i }
 
-  number-as-ours : (s stack : List ℕ) (lies : Where) (registers : Registers)
-      → stepNumber (calls .step s stack lies registers) ≡ stepNumber (stepIn s stack lies registers)
+  number-as-ours : (s stack : List ℕ) (process : Process) (registers : Registers)
+      → stepNumber (calls .step s stack process registers) ≡ stepNumber (stepIn s stack process registers)
   unfolding stepNumber
-  number-as-ours s stack lies registers =
+  number-as-ours s stack process registers =
       ⊎-elim
       (λ none.
-      let (caller, case) = number-0-exactly-when s stack lies registers .0 none in
-      ap stepNumber (demands .demand-2 .steps s stack lies registers caller .1 case) ∙ sym none)
+      let (caller, case) = number-0-exactly-when s stack process registers .0 none in
+      ap stepNumber (demands .demand-2 .steps s stack process registers caller .1 case) ∙ sym none)
       (λ due.
       let (cause, is, on) = due in
-      demands .demand-1 .step s stack lies registers .given cause .1 on ∙ sym is)
-      (step-due s stack lies registers)
+      demands .demand-1 .step s stack process registers .given cause .1 on ∙ sym is)
+      (step-due s stack process registers)
 
   -- a step that ours refuses by a row or a lookup is no caller, has no index, and has our number and the old registers
-  refused-as-ours : (s stack : List ℕ) (lies : Where) (registers old : Registers) (number : ℕ)
-      → stepIn s stack lies registers ≡ Refused old number
+  refused-as-ours : (s stack : List ℕ) (process : Process) (registers old : Registers) (number : ℕ)
+      → stepIn s stack process registers ≡ Refused old number
       → (o : Step)
-      → calls .step s stack lies registers ≡ o
+      → calls .step s stack process registers ≡ o
       → o ≡ Refused old number
   unfolding stepNumber stepIndexes stepRegisters
-  refused-as-ours s stack lies registers old number is (Caller caller) answers =
-      let too = caller-exactly-when s stack lies registers caller .1 (demands .demand-2 .steps s stack lies registers caller .0 answers) in
+  refused-as-ours s stack process registers old number is (Caller caller) answers =
+      let too = caller-exactly-when s stack process registers caller .1 (demands .demand-2 .steps s stack process registers caller .0 answers) in
       let clash : Caller caller ≡ Refused old number = sym too ∙ is in
       absurd (let z : _≡_ {A = ℕ} 0 1 = cc in omega arith)
-  refused-as-ours s stack lies registers old number is (Unsound other m index) answers =
-      let (fits, rule, given) = demands .demand-1 .step s stack lies registers .indexed index .0 (ap stepIndexes answers) in
-      let too = unsound-exactly-when s stack lies registers rule index .1 (fits, given) in
+  refused-as-ours s stack process registers old number is (Unsound other m index) answers =
+      let (fits, rule, given) = demands .demand-1 .step s stack process registers .indexed index .0 (ap stepIndexes answers) in
+      let too = unsound-exactly-when s stack process registers rule index .1 (fits, given) in
       let clash : Unsound registers (numberOfRule rule) index ≡ Refused old number = sym too ∙ is in
       absurd (let z : _≡_ {A = ℕ} 0 1 = cc in omega arith)
-  refused-as-ours s stack lies registers old number is (Refused other m) answers =
-      let no-caller : (caller : Registers) → ¬ (calls .step s stack lies registers ≡ Caller caller) =
+  refused-as-ours s stack process registers old number is (Refused other m) answers =
+      let no-caller : (caller : Registers) → ¬ (calls .step s stack process registers ≡ Caller caller) =
       λ caller e. let clash : Caller caller ≡ Refused other m = sym e ∙ answers in let z : _≡_ {A = ℕ} 0 1 = cc in omega arith in
-      let theirs : other ≡ registers = sym (ap stepRegisters answers) ∙ demands .demand-1 .step s stack lies registers .old no-caller in
-      let ours-old : old ≡ registers = step-exactly-when s stack lies registers (Refused old number) .0 is .0 in
-      let same : m ≡ number = sym (ap stepNumber answers) ∙ number-as-ours s stack lies registers ∙ ap stepNumber is in
+      let theirs : other ≡ registers = sym (ap stepRegisters answers) ∙ demands .demand-1 .step s stack process registers .old no-caller in
+      let ours-old : old ≡ registers = step-exactly-when s stack process registers (Refused old number) .0 is .0 in
+      let same : m ≡ number = sym (ap stepNumber answers) ∙ number-as-ours s stack process registers ∙ ap stepNumber is in
       cc
 
-  step-as-ours : (s stack : List ℕ) (lies : Where) (registers : Registers) → calls .step s stack lies registers ≡ stepIn s stack lies registers
-  step-as-ours s stack lies registers = by (stepIn s stack lies registers) refl
+  step-as-ours : (s stack : List ℕ) (process : Process) (registers : Registers) → calls .step s stack process registers ≡ stepIn s stack process registers
+  step-as-ours s stack process registers = by (stepIn s stack process registers) refl
     where
-      by : (o : Step) → stepIn s stack lies registers ≡ o → calls .step s stack lies registers ≡ o
-      by (Caller caller) is = demands .demand-2 .steps s stack lies registers caller .1 (caller-exactly-when s stack lies registers caller .0 is)
+      by : (o : Step) → stepIn s stack process registers ≡ o → calls .step s stack process registers ≡ o
+      by (Caller caller) is = demands .demand-2 .steps s stack process registers caller .1 (caller-exactly-when s stack process registers caller .0 is)
       by (Unsound old number index) is =
-          let (same, (fits, rule, number-is, given)) = step-exactly-when s stack lies registers (Unsound old number index) .0 is in
-          rw (same, number-is) (demands .demand-1 .step s stack lies registers .carries rule index .1 (fits, given))
-      by (Refused old number) is = refused-as-ours s stack lies registers old number is (calls .step s stack lies registers) refl
+          let (same, (fits, rule, number-is, given)) = step-exactly-when s stack process registers (Unsound old number index) .0 is in
+          rw (same, number-is) (demands .demand-1 .step s stack process registers .carries rule index .1 (fits, given))
+      by (Refused old number) is = refused-as-ours s stack process registers old number is (calls .step s stack process registers) refl
 
   pub demands-ours-alone : calls ≡ ours
   unfolding ours

@@ -18,7 +18,7 @@ use Rattle.caller.specs.computed.Caller.{lookAt, stepAfter, stepOf, stepIn}
 use Rattle.caller.specs.declared.registers.Asked.{Asked}
 use Rattle.caller.specs.declared.registers.Asked.the-variants.{At, Nowhere}
 use Rattle.caller.specs.declared.registers.Registers.{Registers}
-use Rattle.caller.specs.declared.registers.Where.{Where}
+use Rattle.caller.specs.declared.registers.Process.{Process}
 use Rattle.caller.proofs.Asked.{nowhere-exactly-when, no-lookup}
 use Rattle.caller.proofs.Exactly.{through-finding}
 use Rattle.promises.specs.PassedRows.{PassesRows, RowsPassed}
@@ -33,24 +33,24 @@ module _ (s t : List ℕ) (accepted : verdict s ≡ Accepted) (also : verdict t 
       ap (λ answer. findingOf (answer .outcome)) (rw (accepted, also) at (answer-agrees s t accepted also address pc alike))
 
   -- by the PC asked; where there is none, no lookup is made in either
-  checked-step : (stack : List ℕ) (lies : Where) (registers : Registers) (asked : Asked) → askedOf registers ≡ asked
-      → ((pc : ℕ) → askedOf registers ≡ At pc → LookAlike s t (distance (lies .section) pc))
-      → stepOf (shapeOf s) (lookIn s (lies .section)) stack lies registers ≡ stepOf (shapeOf t) (lookIn t (lies .section)) stack lies registers
+  checked-step : (stack : List ℕ) (process : Process) (registers : Registers) (asked : Asked) → askedOf registers ≡ asked
+      → ((pc : ℕ) → askedOf registers ≡ At pc → LookAlike s t (distance (process .section) pc))
+      → stepOf (shapeOf s) (lookIn s (process .section)) stack process registers ≡ stepOf (shapeOf t) (lookIn t (process .section)) stack process registers
   unfolding lookAt
-  checked-step stack lies registers Nowhere e alike =
+  checked-step stack process registers Nowhere e alike =
       let nothing = nowhere-exactly-when registers .0 e in
-      no-lookup registers nothing _ _ stack lies ∙ sym (no-lookup registers nothing _ _ stack lies)
-  checked-step stack lies registers (At pc) e alike =
+      no-lookup registers nothing _ _ stack process ∙ sym (no-lookup registers nothing _ _ stack process)
+  checked-step stack process registers (At pc) e alike =
       let here = alike pc e in
-      through-finding (shapeOf s) (shapeOf t) (lookIn s (lies .section)) (lookIn t (lies .section)) stack lies registers
+      through-finding (shapeOf s) (shapeOf t) (lookIn s (process .section)) (lookIn t (process .section)) stack process registers
       (shape-agrees s t (here .header))
-      (rw e (one-finding (lies .section) pc here))
+      (rw e (one-finding (process .section) pc here))
 
-  one-step : (stack : List ℕ) (lies : Where) (registers : Registers)
-      → ((pc : ℕ) → askedOf registers ≡ At pc → LookAlike s t (distance (lies .section) pc))
-      → stepIn s stack lies registers ≡ stepIn t stack lies registers
+  one-step : (stack : List ℕ) (process : Process) (registers : Registers)
+      → ((pc : ℕ) → askedOf registers ≡ At pc → LookAlike s t (distance (process .section) pc))
+      → stepIn s stack process registers ≡ stepIn t stack process registers
   unfolding stepIn stepAfter
-  one-step stack lies registers alike = rw (accepted, also, checked-step stack lies registers (askedOf registers) refl alike)
+  one-step stack process registers alike = rw (accepted, also, checked-step stack process registers (askedOf registers) refl alike)
 
 pub passes-rows : PassesRows ours
 unfolding ours
@@ -58,7 +58,7 @@ passes-rows =
     record {
       checks = verdict-agrees;
       lookups = λ s t accepted also address pc alike. answer-agrees s t accepted also address pc alike;
-      callers = λ s t stack accepted also lies registers alike. one-step s t accepted also stack lies registers alike;
+      callers = λ s t stack accepted also process registers alike. one-step s t accepted also stack process registers alike;
     }
 
 pub rows-passed : RowsPassed

@@ -27,11 +27,11 @@ use denote.Struct.Laws as struct-laws
 use denote.Triple.Clauses.{Lasts, lasts}
 use borrow.Fn.Kinds.{Dens, endedOf}
 use Rattle.caller.specs.declared.registers.Registers.{Registers}
-use Rattle.caller.specs.declared.registers.Where.{Where}
+use Rattle.caller.specs.declared.registers.Process.{Process}
 use Rattle.caller.proofs.registers.Registers as registers-type
 use Rattle.caller.proofs.registers.Registers.Laws as registers-laws
-use Rattle.caller.proofs.registers.Where as where-type
-use Rattle.caller.proofs.registers.Where.Laws as where-laws
+use Rattle.caller.proofs.registers.Process as process-type
+use Rattle.caller.proofs.registers.Process.Laws as process-laws
 use Rattle.suntimpani.specs.Flat.{handedAs}
 use Rattle.suntimpani.specs.declared.rows.RowsInC.{RowsInC}
 use Rattle.suntimpani.specs.declared.walks.TracedInC.{TracedInC}
@@ -54,7 +54,7 @@ use Rattle.promises.specs.Exported.{exported}
 use Rattle.promises.specs.FunctionCall.{exportedFunction}
 use Rattle.promises.specs.RowsCall.{exportedRows}
 use Rattle.promises.specs.Returns.{Assertion, _∗_, _has_, StandsFor, HandedBack}
-use Rattle.promises.specs.Runs.{Runs, Bytes, whole, whereValue, WhereFits, registersValue, RegistersFit, rowsValue, RowsFit, Words, WithBuffer, BufferHas}
+use Rattle.promises.specs.Runs.{Runs, Bytes, whole, processValue, ProcessFits, registersValue, RegistersFit, rowsValue, RowsFit, Words, WithBuffer, BufferHas}
 use Rattle.promises.proofs.BufferLaws.{Buffer, words, words-kept, lends-words, can-be-stored, with-buffer, buffer-has}
 use Rattle.promises.proofs.ExportedKept.{exports-give}
 use Rattle.promises.proofs.ReturnLaws.{𝓤, H, 𝓜, A}
@@ -83,8 +83,8 @@ and-slice F j s b bytes = and-lent (Block b s) (slice j s b) (slice-kept j s b) 
 word : (n : ℕ) → n < 2 ^ 64 → ent 𝓤 (emp 𝓤) (sem 𝓤 H A (u64 .own n (vint w64 n ∷ [])))
 word n fits = uint-makes 𝓤 H A W w64 n (vint w64 n ∷ []) (refl, fits)
 
-the-where : (lies : Where) → WhereFits lies → ent 𝓤 (emp 𝓤) (sem 𝓤 H A (where-type.the-row .own lies (whereValue lies ∷ [])))
-the-where lies fits = struct-laws.makes where-type.the-type where-laws.the-plain 𝓤 H A lies (whereValue lies ∷ []) fits
+the-process : (process : Process) → ProcessFits process → ent 𝓤 (emp 𝓤) (sem 𝓤 H A (process-type.the-row .own process (processValue process ∷ [])))
+the-process process fits = struct-laws.makes process-type.the-type process-laws.the-plain 𝓤 H A process (processValue process ∷ []) fits
 
 the-registers : (registers : Registers) → RegistersFit registers
     → ent 𝓤 (emp 𝓤) (sem 𝓤 H A (registers-type.the-row .own registers (registersValue registers ∷ [])))
@@ -149,19 +149,19 @@ exported-lookup-runs s address pc bytes address-fits pc-fits =
     let a : Dens κs exported-lookup.Kinds.ps = (referred 0 s γ, (address, (pc, tt))) in
     runs exported-lookup-returns κs tt (fullShare, tt) a all (λ z w. exports-give .lookup κs a z .0)
 
-pub exported-caller-runs : (s stack : List ℕ) (lies : Where) (registers : Registers) → Bytes s → Bytes stack → WhereFits lies → RegistersFit registers
-    → Runs exported-caller.Symbol.routine (whole 0 s ∷ whole 1 stack ∷ whereValue lies ∷ registersValue registers ∷ []) (startMem s stack)
-    (λ value after. StandsFor step-type.the-row (exported .step s stack lies registers) value)
-exported-caller-runs s stack lies registers section-bytes stack-bytes lies-fits registers-fit =
+pub exported-caller-runs : (s stack : List ℕ) (process : Process) (registers : Registers) → Bytes s → Bytes stack → ProcessFits process → RegistersFit registers
+    → Runs exported-caller.Symbol.routine (whole 0 s ∷ whole 1 stack ∷ processValue process ∷ registersValue registers ∷ []) (startMem s stack)
+    (λ value after. StandsFor step-type.the-row (exported .step s stack process registers) value)
+exported-caller-runs s stack process registers section-bytes stack-bytes process-fits registers-fit =
     ∥∥₁-elim
     (and-slice (Block 0 s ∗ emp 𝓤) 1 stack 1 stack-bytes
-    (and-value (the-where lies lies-fits) (and-value (the-registers registers registers-fit) (nothing-yet (two-blocks s stack section-bytes stack-bytes)))))
+    (and-value (the-process process process-fits) (and-value (the-registers registers registers-fit) (nothing-yet (two-blocks s stack section-bytes stack-bytes)))))
     ∥∥₁-prop λ stack-lent.
     let (β, δ, second) = stack-lent in
     ∥∥₁-elim (and-slice (emp 𝓤) 0 s 0 section-bytes second) ∥∥₁-prop λ lent.
     let (α, γ, all) = lent in
     let κs : Lfts 2 = (α ∷ [], (β ∷ [], tt)) in
-    let a : Dens κs exported-caller.Kinds.ps = (referred 0 s γ, (referred 1 stack δ, (lies, (registers, tt)))) in
+    let a : Dens κs exported-caller.Kinds.ps = (referred 0 s γ, (referred 1 stack δ, (process, (registers, tt)))) in
     runs exported-caller-returns κs tt (fullShare, (fullShare, tt)) a all (λ z w. exports-give .step κs a z .0)
 
 -- ---- the trace
@@ -186,15 +186,15 @@ module _ (κs : Lfts 3) (qs : Shares 3) (a : Dens κs exported-trace.Kinds.ps) (
       move ! (3 ∷ []) $ split3 ! $ move ! (2 ∷ []) $ split ! $ keep ! (0 ∷ 4 ∷ 8 ∷ []) $ move ! (2 ∷ []) $ split3 ! $ move ! (2 ∷ []) $ split ! $
       keep ! (4 ∷ 5 ∷ 0 ∷ []) $ done !
 
-pub exported-trace-runs : (s stack : List ℕ) (lies : Where) (registers : Registers) (limit : ℕ) (old : List ℕ) (σ : Memory)
-    → Bytes s → Bytes stack → WhereFits lies → RegistersFit registers → limit < 2 ^ 64 → Words old → WithBuffer s stack old σ
+pub exported-trace-runs : (s stack : List ℕ) (process : Process) (registers : Registers) (limit : ℕ) (old : List ℕ) (σ : Memory)
+    → Bytes s → Bytes stack → ProcessFits process → RegistersFit registers → limit < 2 ^ 64 → Words old → WithBuffer s stack old σ
     → Runs exported-trace.Symbol.routine
-    (whole 0 s ∷ whole 1 stack ∷ whereValue lies ∷ registersValue registers ∷ vint w64 limit ∷ whole 2 old ∷ []) σ
+    (whole 0 s ∷ whole 1 stack ∷ processValue process ∷ registersValue registers ∷ vint w64 limit ∷ whole 2 old ∷ []) σ
     (λ value after.
-    StandsFor traced-type.the-row (exported .trace s stack lies registers limit old .answer) value
-    × BufferHas after (length old) (exported .trace s stack lies registers limit old .words))
+    StandsFor traced-type.the-row (exported .trace s stack process registers limit old .answer) value
+    × BufferHas after (length old) (exported .trace s stack process registers limit old .words))
 unfolding handedAs
-exported-trace-runs s stack lies registers limit old σ section-bytes stack-bytes lies-fits registers-fit limit-fits old-words is-stored =
+exported-trace-runs s stack process registers limit old σ section-bytes stack-bytes process-fits registers-fit limit-fits old-words is-stored =
     let blocks : Assertion = Block 1 stack ∗ Block 0 s ∗ emp 𝓤 in
     ∥∥₁-elim
     (and-lent (Buffer (length old) old) (words 2 old) (words-kept 2 old) (lends-words 2 old (omega arith, omega arith))
@@ -203,14 +203,14 @@ exported-trace-runs s stack lies registers limit old σ section-bytes stack-byte
     let (μ, ν, third) = buffer-lent in
     ∥∥₁-elim
     (and-slice (Block 0 s ∗ emp 𝓤) 1 stack 1 stack-bytes
-    (and-value (the-where lies lies-fits) (and-value (the-registers registers registers-fit) (and-value (word limit limit-fits) third))))
+    (and-value (the-process process process-fits) (and-value (the-registers registers registers-fit) (and-value (word limit limit-fits) third))))
     ∥∥₁-prop λ stack-lent.
     let (β, δ, second) = stack-lent in
     ∥∥₁-elim (and-slice (emp 𝓤) 0 s 0 section-bytes second) ∥∥₁-prop λ lent.
     let (α, γ, all) = lent in
     let κs : Lfts 3 = (α ∷ [], (β ∷ [], (μ ∷ [], tt))) in
     let qs : Shares 3 = (fullShare, (fullShare, (fullShare, tt))) in
-    let a : Dens κs exported-trace.Kinds.ps = (referred 0 s γ, (referred 1 stack δ, (lies, (registers, (limit, (referred 2 old ν, tt)))))) in
+    let a : Dens κs exported-trace.Kinds.ps = (referred 0 s γ, (referred 1 stack δ, (process, (registers, (limit, (referred 2 old ν, tt)))))) in
     ∥∥₁-elim (run-ends exported-trace-returns κs tt qs a all) ∥∥₁-prop λ end.
     let left : List ℕ = end .last .1 .1 .1 .1 .1 .0 in
     let same = exports-give .trace κs a (end .reply) left .0 (end .allowed) in

@@ -37,7 +37,7 @@ use Rattle.lookup.proofs.rows.scan_rows.Reads as scan_rows-reads
 use Rattle.lookup.proofs.search.find.Reads as find-reads
 use Rattle.lookup.proofs.table.entry_in.Reads as entry_in-reads
 use Rattle.caller.specs.declared.registers.Registers.{Registers}
-use Rattle.caller.specs.declared.registers.Where.{Where}
+use Rattle.caller.specs.declared.registers.Process.{Process}
 use Rattle.caller.proofs.registers.Registers.step_checked.Reads as step_checked-reads
 use Rattle.trace.specs.declared.answer.Frame.{Frame}
 use Rattle.trace.proofs.answer.write_frame.Reads as write_frame-reads
@@ -182,10 +182,10 @@ entry_in-met κs here i inside = (record { header = record { sound = refl; layou
 -- ---- caller: any registers and any stack, wherever both slices lie
 
 pub step_checked-met :
-    (κs : Lfts 2) (here there : Lies) (registers : Registers) (stack : List ℕ) (lies : Where)
-    → step_checked-reads.Asked κs (registers, (lent here sectionS, (layoutOf sectionS, (lent there stack, (lies, tt)))))
+    (κs : Lfts 2) (here there : Lies) (registers : Registers) (stack : List ℕ) (process : Process)
+    → step_checked-reads.Asked κs (registers, (lent here sectionS, (layoutOf sectionS, (lent there stack, (process, tt)))))
 unfolding lookupOpened sectionS
-step_checked-met κs here there registers stack lies = record { accepted = refl; layout-is = refl }
+step_checked-met κs here there registers stack process = record { accepted = refl; layout-is = refl }
 
 -- ---- trace: a buffer of three words, and any frame
 

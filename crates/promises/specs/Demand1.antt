@@ -17,7 +17,7 @@ use Rattle.caller.specs.Cases.{WindowFits, OnStep}
 use Rattle.caller.specs.Numbers.{StepCause, numberOfStepCause, stepNumber, stepIndexes, stepRegisters}
 use Rattle.caller.specs.declared.registers.Registers.{Registers}
 use Rattle.caller.specs.declared.registers.Step.the-variants as step
-use Rattle.caller.specs.declared.registers.Where.{Where}
+use Rattle.caller.specs.declared.registers.Process.{Process}
 use Rattle.trace.specs.Cases.{AtDoor, DoorOpen, OnTrace}
 use Rattle.trace.specs.Frames.{TraceReply}
 use Rattle.trace.specs.Numbers.{TraceCause, numberOfTraceCause, endingNumber, endingIndexes}
@@ -48,18 +48,18 @@ pub record LookupRefuses (calls : Calls) (s : List ℕ) (address pc : ℕ) : Typ
   pub no-count : (rule : Rule) (index : ℕ) → Given s rule index → calls .lookup s address pc .compared ≡ 0
 
 -- "a refusal hands back the old ones with its number, and for 1 to 15 the entry's index"
-pub record StepRefuses (calls : Calls) (s stack : List ℕ) (lies : Where) (registers : Registers) : Type 0 where
+pub record StepRefuses (calls : Calls) (s stack : List ℕ) (process : Process) (registers : Registers) : Type 0 where
   pub given : (cause : StepCause)
-      → (stepNumber (calls .step s stack lies registers) ≡ numberOfStepCause cause) ↔ OnStep s stack lies registers cause
-  pub known : ((caller : Registers) × (calls .step s stack lies registers ≡ step.Caller caller))
-      ⊎ HasCause numberOfStepCause (stepNumber (calls .step s stack lies registers))
+      → (stepNumber (calls .step s stack process registers) ≡ numberOfStepCause cause) ↔ OnStep s stack process registers cause
+  pub known : ((caller : Registers) × (calls .step s stack process registers ≡ step.Caller caller))
+      ⊎ HasCause numberOfStepCause (stepNumber (calls .step s stack process registers))
   pub carries : (rule : Rule) (index : ℕ)
-      → (calls .step s stack lies registers ≡ step.Unsound registers (numberOfRule rule) index) ↔ (WindowFits stack lies × Given s rule index)
+      → (calls .step s stack process registers ≡ step.Unsound registers (numberOfRule rule) index) ↔ (WindowFits stack process × Given s rule index)
   -- an index comes with 1 to 15 alone
   pub indexed : (index : ℕ)
-      → (stepIndexes (calls .step s stack lies registers) ≡ index ∷ []) ↔ (WindowFits stack lies × (rule : Rule) × Given s rule index)
-  pub old : ((caller : Registers) → ¬ (calls .step s stack lies registers ≡ step.Caller caller))
-      → stepRegisters (calls .step s stack lies registers) ≡ registers
+      → (stepIndexes (calls .step s stack process registers) ≡ index ∷ []) ↔ (WindowFits stack process × (rule : Rule) × Given s rule index)
+  pub old : ((caller : Registers) → ¬ (calls .step s stack process registers ≡ step.Caller caller))
+      → stepRegisters (calls .step s stack process registers) ≡ registers
 
 -- "These write nothing and answer 0 frames"
 abbrev pub Nothing : TraceReply → List ℕ → Type 0
@@ -75,28 +75,28 @@ pub record BufferLeft (t : TraceReply) (old : List ℕ) : Type 0 where
   pub as-many : length (t .words) ≡ length old
 
 -- "and for 1 to 15 the entry's index"
-pub record TraceRefuses (calls : Calls) (s stack : List ℕ) (lies : Where) (registers : Registers) (limit : ℕ) (old : List ℕ) : Type 0 where
+pub record TraceRefuses (calls : Calls) (s stack : List ℕ) (process : Process) (registers : Registers) (limit : ℕ) (old : List ℕ) : Type 0 where
   pub given : (cause : TraceCause)
-      → (endingNumber (calls .trace s stack lies registers limit old .answer .ending) ≡ numberOfTraceCause cause)
-      ↔ OnTrace s stack lies registers limit old cause
-  pub known : HasCause numberOfTraceCause (endingNumber (calls .trace s stack lies registers limit old .answer .ending))
+      → (endingNumber (calls .trace s stack process registers limit old .answer .ending) ≡ numberOfTraceCause cause)
+      ↔ OnTrace s stack process registers limit old cause
+  pub known : HasCause numberOfTraceCause (endingNumber (calls .trace s stack process registers limit old .answer .ending))
   -- a refusal at the door is told from a refused step
   pub at-door : (number : ℕ)
-      → (calls .trace s stack lies registers limit old .answer .ending ≡ ending.Shut number) ↔ AtDoor stack lies limit old number
+      → (calls .trace s stack process registers limit old .answer .ending ≡ ending.Shut number) ↔ AtDoor stack process limit old number
   pub carries : (rule : Rule) (index : ℕ)
-      → (calls .trace s stack lies registers limit old .answer .ending ≡ ending.Unsound (numberOfRule rule) index)
-      ↔ (DoorOpen stack lies limit old × Given s rule index)
+      → (calls .trace s stack process registers limit old .answer .ending ≡ ending.Unsound (numberOfRule rule) index)
+      ↔ (DoorOpen stack process limit old × Given s rule index)
   -- an index comes with 1 to 15 alone
   pub indexed : (index : ℕ)
-      → (endingIndexes (calls .trace s stack lies registers limit old .answer .ending) ≡ index ∷ [])
-      ↔ (DoorOpen stack lies limit old × (rule : Rule) × Given s rule index)
-  pub leaves : BufferLeft (calls .trace s stack lies registers limit old) old
+      → (endingIndexes (calls .trace s stack process registers limit old .answer .ending) ≡ index ∷ [])
+      ↔ (DoorOpen stack process limit old × (rule : Rule) × Given s rule index)
+  pub leaves : BufferLeft (calls .trace s stack process registers limit old) old
 
 -- ---- all four, on every input
 
 pub record Demand1 (calls : Calls) : Type 0 where
   pub check : (s : List ℕ) → CheckRefuses calls s
   pub lookup : (s : List ℕ) (address pc : ℕ) → LookupRefuses calls s address pc
-  pub step : (s stack : List ℕ) (lies : Where) (registers : Registers) → StepRefuses calls s stack lies registers
-  pub trace : (s stack : List ℕ) (lies : Where) (registers : Registers) (limit : ℕ) (old : List ℕ)
-      → TraceRefuses calls s stack lies registers limit old
+  pub step : (s stack : List ℕ) (process : Process) (registers : Registers) → StepRefuses calls s stack process registers
+  pub trace : (s stack : List ℕ) (process : Process) (registers : Registers) (limit : ℕ) (old : List ℕ)
+      → TraceRefuses calls s stack process registers limit old

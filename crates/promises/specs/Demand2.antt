@@ -18,7 +18,7 @@ use Rattle.caller.specs.Cases.{CallerCase}
 use Rattle.caller.specs.InBytes.{CallerInBytes}
 use Rattle.caller.specs.declared.registers.Registers.{Registers}
 use Rattle.caller.specs.declared.registers.Step.the-variants.{Caller}
-use Rattle.caller.specs.declared.registers.Where.{Where}
+use Rattle.caller.specs.declared.registers.Process.{Process}
 use Rattle.trace.specs.Cases as trace
 use Rattle.trace.specs.Frames.{TraceReply, withMark, tracedAs, allWords, over}
 use Rattle.trace.specs.declared.answer.Ending.{Ending}
@@ -30,24 +30,24 @@ unfoldable pub leftBy : List Frame → Ending → List ℕ → TraceReply
 leftBy frames ending old = tracedAs (record { ending = ending; frames = length frames }) (over (allWords frames) old)
 
 -- a trace is some frames, of which "every frame comes from the last", and the ending that is theirs
-pub record TraceCase (t : TraceReply) (s stack : List ℕ) (lies : Where) (registers : Registers) (limit : ℕ) (old : List ℕ) : Type 0 where
+pub record TraceCase (t : TraceReply) (s stack : List ℕ) (process : Process) (registers : Registers) (limit : ℕ) (old : List ℕ) : Type 0 where
   pub frames : List Frame
   pub ending : Ending
-  pub case : trace.Case s stack lies registers limit old frames ending
+  pub case : trace.Case s stack process registers limit old frames ending
   pub left : t ≡ leftBy frames ending old
 
 -- the same by the step call of the four: frame 0 is the caller of the registers handed in, with the mark, and each other frame the caller
 -- of the one before it; "CFA, RA, FP each" are the CFA that the step's row defines, the caller's PC and its FP
-pub record FromTheLast (calls : Calls) (s stack : List ℕ) (lies : Where) (registers : Registers) (limit : ℕ) (old : List ℕ) : Type 0 where
+pub record FromTheLast (calls : Calls) (s stack : List ℕ) (process : Process) (registers : Registers) (limit : ℕ) (old : List ℕ) : Type 0 where
   pub at : ℕ → Registers
   pub starts : at 0 ≡ withMark registers
-  pub steps : (k : ℕ) → k < calls .trace s stack lies registers limit old .answer .frames
-      → calls .step s stack lies (at k) ≡ Caller (at (suc k))
-  pub defined : (k : ℕ) → k < calls .trace s stack lies registers limit old .answer .frames → CallerInBytes s stack lies (at k) (at (suc k))
-  pub written : (k : ℕ) (less : k < calls .trace s stack lies registers limit old .answer .frames)
-      → (getD (calls .trace s stack lies registers limit old .words) (3 * k) 0 ≡ defined k less .cfa)
-      × (getD (calls .trace s stack lies registers limit old .words) (3 * k + 1) 0 ≡ at (suc k) .pc)
-      × (getD (calls .trace s stack lies registers limit old .words) (3 * k + 2) 0 ≡ at (suc k) .fp)
+  pub steps : (k : ℕ) → k < calls .trace s stack process registers limit old .answer .frames
+      → calls .step s stack process (at k) ≡ Caller (at (suc k))
+  pub defined : (k : ℕ) → k < calls .trace s stack process registers limit old .answer .frames → CallerInBytes s stack process (at k) (at (suc k))
+  pub written : (k : ℕ) (less : k < calls .trace s stack process registers limit old .answer .frames)
+      → (getD (calls .trace s stack process registers limit old .words) (3 * k) 0 ≡ defined k less .cfa)
+      × (getD (calls .trace s stack process registers limit old .words) (3 * k + 1) 0 ≡ at (suc k) .pc)
+      × (getD (calls .trace s stack process registers limit old .words) (3 * k + 2) 0 ≡ at (suc k) .fp)
 
 -- what the values of an answer say, on a section that obeys, with d "PC minus section address"
 pub record ValuesSay (o : Outcome) (s : List ℕ) (d : ℤ) : Type 0 where
@@ -66,13 +66,13 @@ pub record Demand2 (calls : Calls) : Type 0 where
       → (calls .lookup s address pc .outcome ≡ o) ↔ lookup.Case s (distance address pc) o
   pub values : (s : List ℕ) → Obeys s → (address pc : ℕ) → ValuesSay (calls .lookup s address pc .outcome) s (distance address pc)
   -- "The caller has PC = RA, SP = CFA, the new FP, LR unchanged and no mark."
-  pub steps : (s stack : List ℕ) (lies : Where) (registers caller : Registers)
-      → (calls .step s stack lies registers ≡ Caller caller) ↔ CallerCase s stack lies registers caller
+  pub steps : (s stack : List ℕ) (process : Process) (registers caller : Registers)
+      → (calls .step s stack process registers ≡ Caller caller) ↔ CallerCase s stack process registers caller
   -- "CFA is base plus first offset.", RA and FP, in the bytes of the row
-  pub in-bytes : (s stack : List ℕ) (lies : Where) (registers caller : Registers)
-      → (calls .step s stack lies registers ≡ Caller caller) ↔ CallerInBytes s stack lies registers caller
+  pub in-bytes : (s stack : List ℕ) (process : Process) (registers caller : Registers)
+      → (calls .step s stack process registers ≡ Caller caller) ↔ CallerInBytes s stack process registers caller
   -- "The walk starts with the mark set and writes each frame that a step yields."
-  pub traces : (s stack : List ℕ) (lies : Where) (registers : Registers) (limit : ℕ) (old : List ℕ)
-      → TraceCase (calls .trace s stack lies registers limit old) s stack lies registers limit old
-  pub from-the-last : (s stack : List ℕ) (lies : Where) (registers : Registers) (limit : ℕ) (old : List ℕ)
-      → FromTheLast calls s stack lies registers limit old
+  pub traces : (s stack : List ℕ) (process : Process) (registers : Registers) (limit : ℕ) (old : List ℕ)
+      → TraceCase (calls .trace s stack process registers limit old) s stack process registers limit old
+  pub from-the-last : (s stack : List ℕ) (process : Process) (registers : Registers) (limit : ℕ) (old : List ℕ)
+      → FromTheLast calls s stack process registers limit old

@@ -13,7 +13,7 @@ use Rattle.accept.specs.declared.verdict.Verdict.the-variants.{Accepted}
 use Rattle.lookup.specs.Finding.{findingOf}
 use Rattle.lookup.specs.Halving.{landing}
 use Rattle.caller.specs.declared.registers.Registers.{Registers}
-use Rattle.caller.specs.declared.registers.Where.{Where}
+use Rattle.caller.specs.declared.registers.Process.{Process}
 use Rattle.promises.specs.Calls.{Calls}
 use Rattle.promises.specs.Demand2.{Demand2}
 use Rattle.promises.specs.SameFunctions.{SameFunctions}
@@ -41,12 +41,12 @@ pub record Demand3 (calls : Calls) : Type 0 where
   -- "same row", its number in the function and its contents, "or refusal number"
   pub rows : (s t : List ℕ) → Alike calls s t → (address pc : ℕ)
       → findingOf (calls .lookup s address pc .outcome) ≡ findingOf (calls .lookup t address pc .outcome)
-  -- the same caller, or refusal number with the old registers
-  pub callers : (s t stack : List ℕ) → Alike calls s t → (lies : Where) (registers : Registers)
-      → calls .step s stack lies registers ≡ calls .step t stack lies registers
+  -- the same caller, or refusal number with the old registers; "with equal masks", since the process is the same
+  pub callers : (s t stack : List ℕ) → Alike calls s t → (process : Process) (registers : Registers)
+      → calls .step s stack process registers ≡ calls .step t stack process registers
   -- "same trace": words, frame count and ending
-  pub traces : (s t stack : List ℕ) → Alike calls s t → (lies : Where) (registers : Registers) (limit : ℕ) (old : List ℕ)
-      → calls .trace s stack lies registers limit old ≡ calls .trace t stack lies registers limit old
+  pub traces : (s t stack : List ℕ) → Alike calls s t → (process : Process) (registers : Registers) (limit : ℕ) (old : List ℕ)
+      → calls .trace s stack process registers limit old ≡ calls .trace t stack process registers limit old
   pub counts : (s : List ℕ) → calls .check s ≡ Accepted → (address pc : ℕ) → Counts calls s address pc
   -- "function indexes and, unsorted, counts may differ": sorted, they do not
   pub sorted-counts : (s t : List ℕ) → Alike calls s t → layoutOf s .sorted ≡ true → layoutOf t .sorted ≡ true → (address pc : ℕ)

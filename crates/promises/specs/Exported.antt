@@ -38,8 +38,8 @@ readCalls flat =
     record {
       check = λ s. readVerdict (flat .check s);
       lookup = λ s address pc. readAnswer (flat .lookup s address pc);
-      step = λ s stack lies registers. readStep (flat .step s stack lies registers);
-      trace = λ s stack lies registers limit old. readTrace (flat .trace s stack lies registers limit old);
+      step = λ s stack process registers. readStep (flat .step s stack process registers);
+      trace = λ s stack process registers limit old. readTrace (flat .trace s stack process registers limit old);
     }
 
 -- and the structs of given calls
@@ -48,8 +48,8 @@ flatCalls calls =
     record {
       check = λ s. flatVerdict (calls .check s);
       lookup = λ s address pc. flatAnswer (calls .lookup s address pc);
-      step = λ s stack lies registers. flatStep (calls .step s stack lies registers);
-      trace = λ s stack lies registers limit old. flatTrace (calls .trace s stack lies registers limit old);
+      step = λ s stack process registers. flatStep (calls .step s stack process registers);
+      trace = λ s stack process registers limit old. flatTrace (calls .trace s stack process registers limit old);
     }
 
 -- what the contracts of these four exported functions of ours name

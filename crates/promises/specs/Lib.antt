@@ -17,6 +17,7 @@ pub mod Returns
 pub mod RowsCall
 pub mod Runs
 pub mod SameFunctions
+pub mod SignedAddresses
 pub mod Table
 pub mod Wrong
 pub mod computed

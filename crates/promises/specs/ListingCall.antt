@@ -161,11 +161,11 @@ LinesPromised listing =
 pub record Called (section : RefT (List ℕ)) (i : ℕ) (readers : ℕ → RowReader) (yielded : ℕ → NextRow) : Type 0 where
   pub within : Lfts 1
   pub during : ℕ → Lfts 2
-  pub lies : ℕ → Lies
+  pub process : ℕ → Lies
   pub made : reader-says .Learnt within (section, (i, tt)) (readers 0) (atExit make.ended within (section, (i, tt)) (tt, (tt, tt)))
   pub turns : (k : ℕ)
-      → turn-says .Learnt (during k) (record { ptr = lies k .place; name = lies k .name; now = readers k }, tt) (yielded k)
-      (atExit move.ended (during k) (record { ptr = lies k .place; name = lies k .name; now = readers k }, tt) (readers (suc k), tt))
+      → turn-says .Learnt (during k) (record { ptr = process k .place; name = process k .name; now = readers k }, tt) (yielded k)
+      (atExit move.ended (during k) (record { ptr = process k .place; name = process k .name; now = readers k }, tt) (readers (suc k), tt))
 
 pub record ReaderReads (section : RefT (List ℕ)) (i : ℕ) (readers : ℕ → RowReader) (yielded : ℕ → NextRow) : Type 0 where
   pub yields : YieldsRows (now section) i yielded

@@ -13,7 +13,7 @@ use Rattle.lookup.specs.Scanned.{LookAlike}
 use Rattle.caller.specs.Frame.{askedOf}
 use Rattle.caller.specs.declared.registers.Asked.the-variants.{At}
 use Rattle.caller.specs.declared.registers.Registers.{Registers}
-use Rattle.caller.specs.declared.registers.Where.{Where}
+use Rattle.caller.specs.declared.registers.Process.{Process}
 use Rattle.promises.specs.Calls.{Calls}
 use Rattle.promises.specs.Contracts.{Keeps}
 
@@ -24,9 +24,9 @@ pub record PassesRows (calls : Calls) : Type 0 where
   pub lookups : (s t : List ℕ) → calls .check s ≡ Accepted → calls .check t ≡ Accepted → (address pc : ℕ)
       → LookAlike s t (distance address pc) → calls .lookup s address pc ≡ calls .lookup t address pc
   -- the same caller, or refusal number with the old registers
-  pub callers : (s t stack : List ℕ) → calls .check s ≡ Accepted → calls .check t ≡ Accepted → (lies : Where) (registers : Registers)
-      → ((pc : ℕ) → askedOf registers ≡ At pc → LookAlike s t (distance (lies .section) pc))
-      → calls .step s stack lies registers ≡ calls .step t stack lies registers
+  pub callers : (s t stack : List ℕ) → calls .check s ≡ Accepted → calls .check t ≡ Accepted → (process : Process) (registers : Registers)
+      → ((pc : ℕ) → askedOf registers ≡ At pc → LookAlike s t (distance (process .section) pc))
+      → calls .step s stack process registers ≡ calls .step t stack process registers
 
 abbrev pub RowsPassed : Type 0
 RowsPassed = (calls : Calls) → Keeps calls → PassesRows calls

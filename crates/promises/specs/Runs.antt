@@ -15,11 +15,11 @@ use prog.Model.{AllFit}
 use prog.Routine.{Routine}
 use denote.Slice.{sliceVal}
 use Rattle.caller.specs.declared.registers.Registers.{Registers}
-use Rattle.caller.specs.declared.registers.Where.{Where}
+use Rattle.caller.specs.declared.registers.Process.{Process}
 use Rattle.caller.proofs.registers.Registers as registers-type
 use Rattle.caller.proofs.registers.Registers.Laws as registers-laws
-use Rattle.caller.proofs.registers.Where as where-type
-use Rattle.caller.proofs.registers.Where.Laws as where-laws
+use Rattle.caller.proofs.registers.Process as process-type
+use Rattle.caller.proofs.registers.Process.Laws as process-laws
 use Rattle.suntimpani.specs.declared.rows.RowsInC.{RowsInC}
 use Rattle.suntimpani.proofs.rows.RowsInC as rows-type
 use Rattle.suntimpani.proofs.rows.RowsInC.Laws as rows-laws
@@ -42,11 +42,11 @@ whole block all = sliceVal (block, 0) (length all)
 
 -- ---- the structs that are handed in, as the machine holds them, field by field, and that every number fits its field
 
-abbrev pub whereValue : Where → Val
-whereValue = where-laws.lowered
+abbrev pub processValue : Process → Val
+processValue = process-laws.lowered
 
-abbrev pub WhereFits : Where → Type 0
-WhereFits lies = StandsFor where-type.the-row lies (whereValue lies)
+abbrev pub ProcessFits : Process → Type 0
+ProcessFits process = StandsFor process-type.the-row process (processValue process)
 
 abbrev pub registersValue : Registers → Val
 registersValue = registers-laws.lowered

@@ -12,7 +12,7 @@ use Rattle.lookup.specs.declared.answer.Outcome.the-variants.{Found, NoFunction
 use Rattle.caller.specs.declared.registers.Registers.{Registers}
 use Rattle.caller.specs.declared.registers.Step.{Step}
 use Rattle.caller.specs.declared.registers.Step.the-variants as step
-use Rattle.caller.specs.declared.registers.Where.{Where}
+use Rattle.caller.specs.declared.registers.Process.{Process}
 use Rattle.trace.specs.Frames.{TraceReply, tracedAs}
 use Rattle.trace.specs.declared.answer.Ending.the-variants as ending
 use Rattle.promises.specs.Calls.{Calls}
@@ -23,10 +23,10 @@ pub data Question : Type 0 where
   askCheck : Question
   -- the section's address and PC
   askLookup : ℕ → ℕ → Question
-  -- the stack window, where it and the section lie, and the registers
-  askCaller : List ℕ → Where → Registers → Question
+  -- the stack window, what is known of the process, and the registers
+  askCaller : List ℕ → Process → Registers → Question
   -- these, the limit and what the buffer holds
-  askTrace : List ℕ → Where → Registers → ℕ → List ℕ → Question
+  askTrace : List ℕ → Process → Registers → ℕ → List ℕ → Question
 
 pub data Reply : Type 0 where
   aVerdict : Verdict → Reply
@@ -42,8 +42,8 @@ pub record Agreed : Type 0 where
 unfoldable pub replyTo : Calls → List ℕ → Question → Reply
 replyTo calls s askCheck = aVerdict (calls .check s)
 replyTo calls s (askLookup address pc) = anAnswer (calls .lookup s address pc)
-replyTo calls s (askCaller stack lies registers) = aStep (calls .step s stack lies registers)
-replyTo calls s (askTrace stack lies registers limit old) = aTrace (calls .trace s stack lies registers limit old)
+replyTo calls s (askCaller stack process registers) = aStep (calls .step s stack process registers)
+replyTo calls s (askTrace stack process registers limit old) = aTrace (calls .trace s stack process registers limit old)
 
 -- these calls reply to every row of a table as it expects
 abbrev pub Holds : Calls → List Agreed → Type 0
@@ -52,9 +52,9 @@ Holds calls (row ∷ rows) = (replyTo calls (row .section) (row .question) ≡ r
 
 -- ---- what is asked, and of what
 
--- "Loaded at 0x400000."; for K10 to K12 "stack at 0x7000"
-unfoldable pub loaded : Where
-loaded = record { section = 0x400000; stack = 0x7000 }
+-- "Loaded at 0x400000."; for K10 to K12 "stack at 0x7000"; the mask is any
+unfoldable pub loaded : ℕ → Process
+loaded mask = record { section = 0x400000; stack = 0x7000; mask = mask }
 
 unfoldable pub at : ℕ → Question
 at pc = askLookup 0x400000 pc
@@ -70,10 +70,10 @@ crashed lr first = record { pc = 0x401044; sp = 0x7000; fp = 0x7030; lr = lr; fi
 unfoldable pub agreed : List ℕ → Question → Reply → Agreed
 agreed section question expected = record { section = section; question = question; expected = expected }
 
--- ---- K1 to K12, for any LR, mark and words that the buffer held
+-- ---- K1 to K12, for any mask, LR, mark and words that the buffer held
 
-unfoldable pub table : (lr first a b c d e f : ℕ) → List Agreed
-table lr first a b c d e f =
+unfoldable pub table : (mask lr first a b c d e f : ℕ) → List Agreed
+table mask lr first a b c d e f =
     -- "K1: S is accepted."
     agreed sectionS askCheck (aVerdict Accepted)
     -- "K2: the first 77 bytes, 8."
@@ -97,13 +97,13 @@ table lr first a b c d e f =
     ∷ agreed unsortedS askCheck (aVerdict Accepted)
     ∷ agreed unsortedS (at 0x40101f) (anAnswer (record { outcome = Dispute 0 1; compared = 2 }))
     -- "K10: .. limit 2. Words 0x7008, 0x401008, 0x7030, 0x7040, 0, 0; two frames, ending 30."
-    ∷ agreed sectionS (askTrace stackWindow loaded (crashed lr first) 2 (a ∷ b ∷ c ∷ d ∷ e ∷ f ∷ []))
+    ∷ agreed sectionS (askTrace stackWindow (loaded mask) (crashed lr first) 2 (a ∷ b ∷ c ∷ d ∷ e ∷ f ∷ []))
     (aTrace (tracedAs (record { ending = ending.Outermost; frames = 2 }) (0x7008 ∷ 0x401008 ∷ 0x7030 ∷ 0x7040 ∷ 0 ∷ 0 ∷ [])))
     -- "K11: limit 1, one frame, 31."
-    ∷ agreed sectionS (askTrace stackWindow loaded (crashed lr first) 1 (a ∷ b ∷ c ∷ []))
+    ∷ agreed sectionS (askTrace stackWindow (loaded mask) (crashed lr first) 1 (a ∷ b ∷ c ∷ []))
     (aTrace (tracedAs (record { ending = ending.Full; frames = 1 }) (0x7008 ∷ 0x401008 ∷ 0x7030 ∷ [])))
     -- "K12: limit 2 again, 63 stack bytes, one frame, 28."
-    ∷ agreed sectionS (askTrace (take 63 stackWindow) loaded (crashed lr first) 2 (a ∷ b ∷ c ∷ d ∷ e ∷ f ∷ []))
+    ∷ agreed sectionS (askTrace (take 63 stackWindow) (loaded mask) (crashed lr first) 2 (a ∷ b ∷ c ∷ d ∷ e ∷ f ∷ []))
     (aTrace (tracedAs (record { ending = ending.Refused 28; frames = 1 }) (0x7008 ∷ 0x401008 ∷ 0x7030 ∷ d ∷ e ∷ f ∷ [])))
     ∷ []
 
@@ -128,17 +128,18 @@ bigLeaf offset =
 unfoldable pub inLeaf : ℕ → Registers
 inLeaf first = record { pc = 0x401010; sp = 0x7000; fp = 0x7030; lr = 0x401008; first = first }
 
-unfoldable pub ofLeaf : ℕ → Question
-ofLeaf first = askCaller stackWindow loaded (inLeaf first)
+unfoldable pub ofLeaf : ℕ → ℕ → Question
+ofLeaf mask first = askCaller stackWindow (loaded mask) (inLeaf first)
 
-unfoldable pub aarch64Table : List Agreed
-aarch64Table =
-    agreed (littleLeaf 0) (ofLeaf 1) (aStep (step.Caller (record { pc = 0x401008; sp = 0x7000; fp = 0x7030; lr = 0x401008; first = 0 })))
-    ∷ agreed (littleLeaf 0) (ofLeaf 0) (aStep (step.Refused (inLeaf 0) 26))
-    ∷ agreed (littleLeaf 16) (ofLeaf 0) (aStep (step.Refused (inLeaf 0) 27))
-    ∷ agreed (bigLeaf 0) (ofLeaf 1) (aStep (step.Caller (record { pc = 0x401008; sp = 0x7000; fp = 0x7030; lr = 0x401008; first = 0 })))
-    ∷ agreed (bigLeaf 0) (ofLeaf 0) (aStep (step.Refused (inLeaf 0) 26))
-    ∷ agreed (bigLeaf 16) (ofLeaf 0) (aStep (step.Refused (inLeaf 0) 27))
+-- for any mask, since the row is not signed
+unfoldable pub aarch64Table : ℕ → List Agreed
+aarch64Table mask =
+    agreed (littleLeaf 0) (ofLeaf mask 1) (aStep (step.Caller (record { pc = 0x401008; sp = 0x7000; fp = 0x7030; lr = 0x401008; first = 0 })))
+    ∷ agreed (littleLeaf 0) (ofLeaf mask 0) (aStep (step.Refused (inLeaf 0) 26))
+    ∷ agreed (littleLeaf 16) (ofLeaf mask 0) (aStep (step.Refused (inLeaf 0) 27))
+    ∷ agreed (bigLeaf 0) (ofLeaf mask 1) (aStep (step.Caller (record { pc = 0x401008; sp = 0x7000; fp = 0x7030; lr = 0x401008; first = 0 })))
+    ∷ agreed (bigLeaf 0) (ofLeaf mask 0) (aStep (step.Refused (inLeaf 0) 26))
+    ∷ agreed (bigLeaf 16) (ofLeaf mask 0) (aStep (step.Refused (inLeaf 0) 27))
     ∷ []
 
 -- ---- request 03: "A function that ends in a call which never returns leaves a return address just past its own end"
@@ -168,10 +169,10 @@ called pc first = record { pc = pc; sp = 0x7000; fp = 0x7000; lr = 0; first = fi
 
 -- a step with the mark or without, and one with the section at another address
 unfoldable pub ofCall : ℕ → ℕ → Question
-ofCall pc first = askCaller callWindow loaded (called pc first)
+ofCall pc first = askCaller callWindow (loaded 0) (called pc first)
 
 unfoldable pub lyingAt : ℕ → ℕ → ℕ → Question
-lyingAt section pc first = askCaller callWindow (record { section = section; stack = 0x7000 }) (called pc first)
+lyingAt section pc first = askCaller callWindow (record { section = section; stack = 0x7000; mask = 0 }) (called pc first)
 
 -- the callers by the two rows of S: RA is the word at CFA - 8 in both, as read
 unfoldable pub byEntry : Reply
@@ -206,6 +207,77 @@ lastCallTable =
     ∷ agreed sectionS (lyingAt (2 ^ 64 - 0x1020) (2 ^ 64 - 1) 1) byFrame
     ∷ agreed sectionS (lyingAt (2 ^ 64 - 0x1020) 0 0) (aStep (step.Refused (called 0 0) 21))
     ∷ agreed (take 77 sectionS) (ofCall 0 0) (aStep (step.Unsound (called 0 0) 8 0))
-    ∷ agreed (take 77 sectionS) (askCaller callWindow (record { section = 0x400000; stack = 2 ^ 64 - 63 }) (called 0 0))
+    ∷ agreed (take 77 sectionS) (askCaller callWindow (record { section = 0x400000; stack = 2 ^ 64 - 63; mask = 0 }) (called 0 0))
     (aStep (step.Refused (called 0 0) 41))
+    ∷ []
+
+-- ---- request 04: "On AArch64, a row with the signed bit has the mask's bits cleared from RA, wherever RA came from"
+
+-- one function of 0x20 bytes at 0x1000. At first LR is signed and not yet saved, and CFA is SP; from 8 on CFA is SP + 16, RA, signed, is at
+-- CFA - 8, and FP at CFA - 16; from 16 on the same, not signed. Little and big
+unfoldable pub sealedRows : List ℕ
+sealedRows = 0x00 ∷ 0x83 ∷ 0x00 ∷ 0x08 ∷ 0x87 ∷ 0x10 ∷ 0xf8 ∷ 0xf0 ∷ 0x10 ∷ 0x07 ∷ 0x10 ∷ 0xf8 ∷ 0xf0 ∷ []
+
+unfoldable pub littleSealed : List ℕ
+littleSealed =
+    0xe2 ∷ 0xde ∷ 0x02 ∷ 0x00 ∷ 0x02 ∷ 0x00 ∷ 0x00 ∷ 0x00 ∷ 0x01 ∷ 0x00 ∷ 0x00 ∷ 0x00 ∷ 0x03 ∷ 0x00 ∷ 0x00 ∷ 0x00
+    ∷ 0x0d ∷ 0x00 ∷ 0x00 ∷ 0x00 ∷ 0x00 ∷ 0x00 ∷ 0x00 ∷ 0x00 ∷ 0x14 ∷ 0x00 ∷ 0x00 ∷ 0x00
+    ∷ 0x00 ∷ 0x10 ∷ 0x00 ∷ 0x00 ∷ 0x20 ∷ 0x00 ∷ 0x00 ∷ 0x00 ∷ 0x00 ∷ 0x00 ∷ 0x00 ∷ 0x00 ∷ 0x03 ∷ 0x00 ∷ 0x00 ∷ 0x00 ∷ 0x00 ∷ 0x00 ∷ 0x00 ∷ 0x00
+    ∷ sealedRows
+
+unfoldable pub bigSealed : List ℕ
+bigSealed =
+    0xde ∷ 0xe2 ∷ 0x02 ∷ 0x00 ∷ 0x01 ∷ 0x00 ∷ 0x00 ∷ 0x00 ∷ 0x00 ∷ 0x00 ∷ 0x00 ∷ 0x01 ∷ 0x00 ∷ 0x00 ∷ 0x00 ∷ 0x03
+    ∷ 0x00 ∷ 0x00 ∷ 0x00 ∷ 0x0d ∷ 0x00 ∷ 0x00 ∷ 0x00 ∷ 0x00 ∷ 0x00 ∷ 0x00 ∷ 0x00 ∷ 0x14
+    ∷ 0x00 ∷ 0x00 ∷ 0x10 ∷ 0x00 ∷ 0x00 ∷ 0x00 ∷ 0x00 ∷ 0x20 ∷ 0x00 ∷ 0x00 ∷ 0x00 ∷ 0x00 ∷ 0x00 ∷ 0x00 ∷ 0x00 ∷ 0x03 ∷ 0x00 ∷ 0x00 ∷ 0x00 ∷ 0x00
+    ∷ sealedRows
+
+-- S with bit 7 set in the info of its first row
+unfoldable pub signedS : List ℕ
+signedS = set sectionS 69 0x83
+
+-- FP's word 0x0011000000007030 and RA's, a signature alone, 0x0022000000000000, in little-endian order; then the same in big-endian order
+unfoldable pub sealedWindow : List ℕ
+sealedWindow =
+    0x30 ∷ 0x70 ∷ 0 ∷ 0 ∷ 0 ∷ 0 ∷ 0x11 ∷ 0 ∷ 0 ∷ 0 ∷ 0 ∷ 0 ∷ 0 ∷ 0 ∷ 0x22 ∷ 0
+    ∷ 0 ∷ 0x11 ∷ 0 ∷ 0 ∷ 0 ∷ 0 ∷ 0x70 ∷ 0x30 ∷ 0 ∷ 0x22 ∷ 0 ∷ 0 ∷ 0 ∷ 0 ∷ 0 ∷ 0 ∷ []
+
+-- LR has a signature too
+unfoldable pub sealed : ℕ → ℕ → ℕ → Registers
+sealed pc sp first = record { pc = pc; sp = sp; fp = 0x7030; lr = 0x0035000000401009; first = first }
+
+unfoldable pub ofSealed : ℕ → ℕ → ℕ → ℕ → Question
+ofSealed mask pc sp first = askCaller sealedWindow (loaded mask) (sealed pc sp first)
+
+unfoldable pub fromSealed : ℕ → ℕ → ℕ → ℕ → Reply
+fromSealed pc sp fp lr = aStep (step.Caller (record { pc = pc; sp = sp; fp = fp; lr = lr; first = 0 }))
+
+-- the bits above those of a user's address, where these are 48, but for bit 55
+unfoldable pub usualMask : ℕ
+usualMask = 0xff7f000000000000
+
+unfoldable pub signedTable : (a b c d e f : ℕ) → List Agreed
+signedTable a b c d e f =
+    -- "wherever RA came from": LR, which is itself unchanged, in either byte order
+    agreed littleSealed (ofSealed usualMask 0x401000 0x7000 1) (fromSealed 0x401009 0x7000 0x7030 0x0035000000401009)
+    ∷ agreed bigSealed (ofSealed usualMask 0x401000 0x7000 1) (fromSealed 0x401009 0x7000 0x7030 0x0035000000401009)
+    -- and a word; FP is as read
+    ∷ agreed littleSealed (ofSealed usualMask 0x401009 0x7000 0) (fromSealed 0 0x7010 0x0011000000007030 0x0035000000401009)
+    ∷ agreed bigSealed (ofSealed usualMask 0x401009 0x7010 0) (fromSealed 0 0x7020 0x0011000000007030 0x0035000000401009)
+    -- one bit of the mask, and all
+    ∷ agreed littleSealed (ofSealed 0x0004000000000000 0x401000 0x7000 1) (fromSealed 0x0031000000401009 0x7000 0x7030 0x0035000000401009)
+    ∷ agreed littleSealed (ofSealed (2 ^ 64 - 1) 0x401000 0x7000 1) (fromSealed 0 0x7000 0x7030 0x0035000000401009)
+    -- "rows without it leave RA as read"
+    ∷ agreed littleSealed (ofSealed usualMask 0x401011 0x7000 0) (fromSealed 0x0022000000000000 0x7010 0x0011000000007030 0x0035000000401009)
+    -- "Refusal 24 now comes only when the mask is 0, in its old place": before 26, here of the first row without the mark
+    ∷ agreed littleSealed (ofSealed 0 0x401000 0x7000 1) (aStep (step.Refused (sealed 0x401000 0x7000 1) 24))
+    ∷ agreed littleSealed (ofSealed 0 0x401001 0x7000 0) (aStep (step.Refused (sealed 0x401001 0x7000 0) 24))
+    ∷ agreed littleSealed (ofSealed usualMask 0x401001 0x7000 0) (aStep (step.Refused (sealed 0x401001 0x7000 0) 26))
+    -- "The test for ending 30 uses the cleared RA.", and the PC asked in the second frame is one below the first one's
+    ∷ agreed littleSealed (askTrace sealedWindow (loaded usualMask) (sealed 0x401000 0x7000 0) 2 (a ∷ b ∷ c ∷ d ∷ e ∷ f ∷ []))
+    (aTrace (tracedAs (record { ending = ending.Outermost; frames = 2 }) (0x7000 ∷ 0x401009 ∷ 0x7030 ∷ 0x7010 ∷ 0 ∷ 0x0011000000007030 ∷ [])))
+    ∷ agreed littleSealed (askTrace sealedWindow (loaded 0) (sealed 0x401000 0x7000 0) 2 (a ∷ b ∷ c ∷ d ∷ e ∷ f ∷ []))
+    (aTrace (tracedAs (record { ending = ending.Refused 24; frames = 0 }) (a ∷ b ∷ c ∷ d ∷ e ∷ f ∷ [])))
+    -- AMD64: the bit is ignored, and nothing is cleared
+    ∷ agreed signedS (ofSealed (2 ^ 64 - 1) 0x401003 0x7000 1) (fromSealed 0x0011000000007030 0x7008 0x7030 0x0035000000401009)
     ∷ []

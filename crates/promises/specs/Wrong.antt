@@ -14,7 +14,7 @@ use Rattle.lookup.specs.computed.Answers.{lookupOf}
 use Rattle.lookup.specs.declared.answer.Outcome.the-variants.{Found, NoFunction}
 use Rattle.caller.specs.computed.Caller.{stepIn}
 use Rattle.caller.specs.declared.registers.Registers.{Registers}
-use Rattle.caller.specs.declared.registers.Where.{Where}
+use Rattle.caller.specs.declared.registers.Process.{Process}
 use Rattle.trace.specs.Cases.{noFrame}
 use Rattle.trace.specs.Frames.{tracedAs, allWords, over}
 use Rattle.trace.specs.Numbers.{endingNumber}
@@ -42,31 +42,31 @@ module _ (calls : Calls) where
   -- "a trace that writes nothing"
   abbrev pub WritesNothing : Type 0
   WritesNothing =
-      (s stack : List ℕ) (lies : Where) (registers : Registers) (limit : ℕ) (old : List ℕ)
-      → calls .trace s stack lies registers limit old .words ≡ old
+      (s stack : List ℕ) (process : Process) (registers : Registers) (limit : ℕ) (old : List ℕ)
+      → calls .trace s stack process registers limit old .words ≡ old
 
   -- "a trace that works out the first frame and repeats .. the others": as many copies of one frame as it says there are
   abbrev pub RepeatsFrames : Type 0
   RepeatsFrames =
-      (s stack : List ℕ) (lies : Where) (registers : Registers) (limit : ℕ) (old : List ℕ)
+      (s stack : List ℕ) (process : Process) (registers : Registers) (limit : ℕ) (old : List ℕ)
       → (frame : Frame)
-      × (calls .trace s stack lies registers limit old .words
-      ≡ over (allWords (replicate (calls .trace s stack lies registers limit old .answer .frames) frame)) old)
+      × (calls .trace s stack process registers limit old .words
+      ≡ over (allWords (replicate (calls .trace s stack process registers limit old .answer .frames) frame)) old)
 
   -- "or invents the others": they are these, by all that is handed in but the stack
-  abbrev pub InventsFrames : (List ℕ → Where → Registers → ℕ → List ℕ → List Frame) → Type 0
+  abbrev pub InventsFrames : (List ℕ → Process → Registers → ℕ → List ℕ → List Frame) → Type 0
   InventsFrames made =
-      (s stack : List ℕ) (lies : Where) (registers : Registers) (limit : ℕ) (old : List ℕ)
+      (s stack : List ℕ) (process : Process) (registers : Registers) (limit : ℕ) (old : List ℕ)
       → (frame : Frame)
-      × (calls .trace s stack lies registers limit old .words
-      ≡ over (allWords (take (calls .trace s stack lies registers limit old .answer .frames) (frame ∷ made s lies registers limit old))) old)
+      × (calls .trace s stack process registers limit old .words
+      ≡ over (allWords (take (calls .trace s stack process registers limit old .answer .frames) (frame ∷ made s process registers limit old))) old)
 
   -- a trace that writes where it ends with this number; 41 to 43 and 1 to 15 "write nothing"
   abbrev pub WritesOn : ℕ → Type 0
   WritesOn number =
-      (s stack : List ℕ) (lies : Where) (registers : Registers) (limit : ℕ) (old : List ℕ)
-      → endingNumber (calls .trace s stack lies registers limit old .answer .ending) ≡ number
-      → ¬ (calls .trace s stack lies registers limit old .words ≡ old)
+      (s stack : List ℕ) (process : Process) (registers : Registers) (limit : ℕ) (old : List ℕ)
+      → endingNumber (calls .trace s stack process registers limit old .answer .ending) ≡ number
+      → ¬ (calls .trace s stack process registers limit old .words ≡ old)
 
 -- ---- such calls: ours but for one
 
@@ -102,35 +102,35 @@ countingBy count =
     }
 
 -- the answer is ours, the words are others
-unfoldable pub leaving : (List ℕ → List ℕ → Where → Registers → ℕ → List ℕ → List ℕ) → Calls
+unfoldable pub leaving : (List ℕ → List ℕ → Process → Registers → ℕ → List ℕ → List ℕ) → Calls
 leaving words =
     record {
       check = verdict;
       lookup = lookupOf;
       step = stepIn;
       trace =
-          λ s stack lies registers limit old.
-          tracedAs (traceOf s stack lies registers limit old .answer) (words s stack lies registers limit old);
+          λ s stack process registers limit old.
+          tracedAs (traceOf s stack process registers limit old .answer) (words s stack process registers limit old);
     }
 
 unfoldable pub writingNothing : Calls
-writingNothing = leaving λ s stack lies registers limit old. old
+writingNothing = leaving λ s stack process registers limit old. old
 
 -- the frames of our walk
-abbrev pub framesOf : List ℕ → List ℕ → Where → Registers → ℕ → List ℕ → List Frame
-framesOf s stack lies registers limit old = walkIn s stack lies registers limit (length old) .frames
+abbrev pub framesOf : List ℕ → List ℕ → Process → Registers → ℕ → List ℕ → List Frame
+framesOf s stack process registers limit old = walkIn s stack process registers limit (length old) .frames
 
 unfoldable pub repeatingFrames : Calls
 repeatingFrames =
-    leaving λ s stack lies registers limit old.
-    let frames = framesOf s stack lies registers limit old in
+    leaving λ s stack process registers limit old.
+    let frames = framesOf s stack process registers limit old in
     over (allWords (replicate (length frames) (getD frames 0 noFrame))) old
 
-unfoldable pub inventingFrames : (List ℕ → Where → Registers → ℕ → List ℕ → List Frame) → Calls
+unfoldable pub inventingFrames : (List ℕ → Process → Registers → ℕ → List ℕ → List Frame) → Calls
 inventingFrames made =
-    leaving λ s stack lies registers limit old.
-    let frames = framesOf s stack lies registers limit old in
-    over (allWords (take (length frames) (getD frames 0 noFrame ∷ made s lies registers limit old))) old
+    leaving λ s stack process registers limit old.
+    let frames = framesOf s stack process registers limit old in
+    over (allWords (take (length frames) (getD frames 0 noFrame ∷ made s process registers limit old))) old
 
 -- where our trace ends with this number, the first word is another than it was
 unfoldable pub changedWhere : Bool → List ℕ → List ℕ → List ℕ
@@ -139,6 +139,6 @@ changedWhere false old words = words
 
 unfoldable pub writingOn : ℕ → Calls
 writingOn number =
-    leaving λ s stack lies registers limit old.
-    changedWhere (eqb (endingNumber (traceOf s stack lies registers limit old .answer .ending)) number) old
-    (traceOf s stack lies registers limit old .words)
+    leaving λ s stack process registers limit old.
+    changedWhere (eqb (endingNumber (traceOf s stack process registers limit old .answer .ending)) number) old
+    (traceOf s stack process registers limit old .words)

@@ -1,9 +1,9 @@
 // Steps and traces as lines of text.
 use crate::show::say;
 use crate::show::say_number;
+use caller::registers::Process;
 use caller::registers::Registers;
 use caller::registers::Step;
-use caller::registers::Where;
 use libc::STDOUT_FILENO;
 use trace::answer::Ending;
 use trace::answer::Traced;
@@ -22,14 +22,23 @@ fn show_registers(registers: Registers) {
     say_word(registers.first);
 }
 
+// The mask, where there is one.
+fn show_mask(mask: u64) {
+    if mask != 0 {
+        say(b" mask");
+        say_word(mask);
+    }
+}
+
 // What is lent and asked.
-pub fn show_walk(lies: Where, registers: Registers, bytes: u64, limit: u64, words: u64) {
+pub fn show_walk(process: Process, registers: Registers, bytes: u64, limit: u64, words: u64) {
     say(b"  from");
     show_registers(registers);
     say(b" section");
-    say_word(lies.section);
+    say_word(process.section);
     say(b" stack");
-    say_word(lies.stack);
+    say_word(process.stack);
+    show_mask(process.mask);
     say(b" bytes ");
     say_number(bytes);
     say(b" limit ");

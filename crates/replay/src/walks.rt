@@ -1,7 +1,7 @@
 // The walks of a case: from each one caller, and one trace.
 //
-// A walk is ten words of 8 bytes, little-endian (section address, stack address, PC, SP, FP, LR, the mark, the limit, the number of
-// words in the lent buffer, the stack's length), and the stack's bytes.
+// A walk is eleven words of 8 bytes, little-endian (section address, stack address, mask, PC, SP, FP, LR, the mark, the limit, the number
+// of words in the lent buffer, the stack's length), and the stack's bytes.
 ghost use Prim.Native.Nat.{_+_, _≤_};
 ghost use lib.ListN.{length};
 use crate::show::say;
@@ -9,8 +9,8 @@ use crate::show_walks::show_frames;
 use crate::show_walks::show_step;
 use crate::show_walks::show_traced;
 use crate::show_walks::show_walk;
+use caller::registers::Process;
 use caller::registers::Registers;
-use caller::registers::Where;
 use numbers::field::Order;
 use numbers::field::u64_at;
 use trace::walk::trace;
@@ -22,29 +22,30 @@ const BEFORE: u64 = 0xa5a5_a5a5_a5a5_0000;
 
 // Word k of a walk.
 fn word(walk: &[u8], k: usize) -> u64
-    requires { ⌜ (k ≤ 9) × (80 ≤ length (now walk)) ⌝ }
+    requires { ⌜ (k ≤ 10) × (88 ≤ length (now walk)) ⌝ }
 {
     u64_at(walk, 8 * k, Order::Little)
 }
 
-fn lies_in(walk: &[u8]) -> Where
-    requires { ⌜ 80 ≤ length (now walk) ⌝ }
+fn process_in(walk: &[u8]) -> Process
+    requires { ⌜ 88 ≤ length (now walk) ⌝ }
 {
-    Where {
+    Process {
         section: word(walk, 0),
         stack: word(walk, 1),
+        mask: word(walk, 2),
     }
 }
 
 fn registers_in(walk: &[u8]) -> Registers
-    requires { ⌜ 80 ≤ length (now walk) ⌝ }
+    requires { ⌜ 88 ≤ length (now walk) ⌝ }
 {
     Registers {
-        pc: word(walk, 2),
-        sp: word(walk, 3),
-        fp: word(walk, 4),
-        lr: word(walk, 5),
-        first: word(walk, 6),
+        pc: word(walk, 3),
+        sp: word(walk, 4),
+        fp: word(walk, 5),
+        lr: word(walk, 6),
+        first: word(walk, 7),
     }
 }
 
@@ -91,13 +92,13 @@ fn written_in(buffer: &[u64], frames: u64) -> usize
 fn make_trace(
     section: &[u8],
     stack: &[u8],
-    lies: Where,
+    process: Process,
     registers: Registers,
     limit: u64,
     buffer: &mut [u64],
 ) {
     fill(buffer);
-    let traced = trace(section, stack, lies, registers, limit, buffer);
+    let traced = trace(section, stack, process, registers, limit, buffer);
     let written = written_in(buffer, traced.frames);
     show_traced(traced, kept_from(buffer, written));
     show_frames(&buffer[..written]);
@@ -107,7 +108,7 @@ fn make_trace(
 fn trace_into(
     section: &[u8],
     stack: &[u8],
-    lies: Where,
+    process: Process,
     registers: Registers,
     limit: u64,
     words: u64,
@@ -115,7 +116,7 @@ fn trace_into(
 ) {
     if words <= room.len() as u64 {
         let n = words as usize;
-        make_trace(section, stack, lies, registers, limit, &mut room[..n]);
+        make_trace(section, stack, process, registers, limit, &mut room[..n]);
     }
 }
 
@@ -124,23 +125,31 @@ fn room() -> [u64; WORDS] {
 }
 
 fn make_walk(section: &[u8], walk: &[u8], stack: &[u8])
-    requires { ⌜ 80 ≤ length (now walk) ⌝ }
+    requires { ⌜ 88 ≤ length (now walk) ⌝ }
 {
-    let lies = lies_in(walk);
+    let process = process_in(walk);
     let registers = registers_in(walk);
-    let limit = word(walk, 7);
-    let words = word(walk, 8);
-    show_walk(lies, registers, stack.len() as u64, limit, words);
-    show_step(registers.step(section, stack, lies));
+    let limit = word(walk, 8);
+    let words = word(walk, 9);
+    show_walk(process, registers, stack.len() as u64, limit, words);
+    show_step(registers.step(section, stack, process));
     let mut buffer = room();
-    trace_into(section, stack, lies, registers, limit, words, &mut buffer);
+    trace_into(
+        section,
+        stack,
+        process,
+        registers,
+        limit,
+        words,
+        &mut buffer,
+    );
 }
 
 pub fn make_walks(section: &[u8], walks: &[u8]) {
     let mut at = 0;
-    while 80 <= walks.len() - at {
-        let start = at + 80;
-        let length = word(&walks[at..start], 9);
+    while 88 <= walks.len() - at {
+        let start = at + 88;
+        let length = word(&walks[at..start], 10);
         if ((walks.len() - start) as u64) < length {
             say(b"the last walk is cut\n");
             return;

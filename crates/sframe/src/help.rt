@@ -8,9 +8,9 @@ fn show_forms() {
     say(b"    every function and row of a section, or one function by its index\n");
     say(b"sframe lookup FILE ADDRESS PC\n");
     say(b"    the function and the row for a PC\n");
-    say(b"sframe caller FILE ADDRESS STACK STACK_ADDRESS PC SP FP LR FIRST\n");
+    say(b"sframe caller FILE ADDRESS STACK STACK_ADDRESS PC SP FP LR FIRST [MASK]\n");
     say(b"    the registers of the caller\n");
-    say(b"sframe trace FILE ADDRESS STACK STACK_ADDRESS PC SP FP LR LIMIT\n");
+    say(b"sframe trace FILE ADDRESS STACK STACK_ADDRESS PC SP FP LR LIMIT [MASK]\n");
     say(b"    every caller in turn, at most LIMIT of them\n");
     say(b"sframe help\n");
     say(b"    this text\n");
@@ -31,6 +31,9 @@ fn show_arguments() {
     );
     say(
         b"A caller looks up PC with the mark and PC - 1 without it; a trace looks up PC, then each RA - 1.\n",
+    );
+    say(
+        b"MASK has the bits of a signature, which are cleared from a signed RA (AArch64); left out it is 0: no such RA is taken.\n",
     );
     say(
         b"LIMIT is the most frames, up to 256, and 0 stands for 64. INDEX counts the functions from 0.\n",

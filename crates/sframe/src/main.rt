@@ -116,15 +116,15 @@ fn has_all(question: Question, given: usize) -> bool {
         Question::List => are_enough(given, 2, b"sframe: 'list' takes FILE [INDEX]\n"),
         Question::Lookup => are_all(given, 3, b"sframe: 'lookup' takes FILE ADDRESS PC\n"),
         Question::Walks(asked) => match asked {
-            Sought::Caller => are_all(
+            Sought::Caller => are_enough(
                 given,
-                9,
-                b"sframe: 'caller' takes FILE ADDRESS STACK STACK_ADDRESS PC SP FP LR FIRST\n",
+                10,
+                b"sframe: 'caller' takes FILE ADDRESS STACK STACK_ADDRESS PC SP FP LR FIRST [MASK]\n",
             ),
-            Sought::Trace => are_all(
+            Sought::Trace => are_enough(
                 given,
-                9,
-                b"sframe: 'trace' takes FILE ADDRESS STACK STACK_ADDRESS PC SP FP LR LIMIT\n",
+                10,
+                b"sframe: 'trace' takes FILE ADDRESS STACK STACK_ADDRESS PC SP FP LR LIMIT [MASK]\n",
             ),
         },
     }
@@ -145,7 +145,7 @@ fn answer(question: Question, section: &[u8], given: usize) {
         Question::Check => show_verdict(section),
         Question::List => answer_list(section, given),
         Question::Lookup => answer_lookup(section),
-        Question::Walks(asked) => answer_walk(asked, section),
+        Question::Walks(asked) => answer_walk(asked, section, given),
     }
 }
 

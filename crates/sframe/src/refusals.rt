@@ -30,7 +30,7 @@ fn say_meaning(number: u64) {
         21 => say(b"no function covers the PC"),
         22 => say(b"two or more functions cover the PC"),
         23 => say(b"no row of the function starts at or below the PC"),
-        24 => say(b"the return address is signed"),
+        24 => say(b"the return address is signed, and no mask says by which bits"),
         25 => say(b"CFA is outside 0 to 2^64 - 1"),
         26 => say(b"CFA is below SP, or equal to it without the first-frame mark"),
         27 => say(b"RA has no place: only the first frame has it in LR"),

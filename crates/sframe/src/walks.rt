@@ -5,8 +5,8 @@ use crate::arguments::file_given;
 use crate::arguments::number_given;
 use crate::show_walks::show_step;
 use crate::show_walks::show_trace;
+use caller::registers::Process;
 use caller::registers::Registers;
-use caller::registers::Where;
 use digits::Parsed;
 use trace::walk::trace;
 ghost use Prim.Native.Nat.{_≤_};
@@ -22,6 +22,9 @@ pub enum Sought {
     Caller,
     Trace,
 }
+
+// How many arguments stand behind the command where MASK is the last of them.
+const WITH_MASK: usize = 10;
 
 // Where the stack lies and what the registers hold, without a mark.
 enum Start {
@@ -58,13 +61,32 @@ fn start_given() -> Start {
     }
 }
 
-fn answer_caller(section: &[u8], stack: &[u8], lies: Where, registers: Registers) {
+// MASK, or 0 where it is left out.
+fn mask_given(given: usize) -> Parsed {
+    if given < WITH_MASK {
+        return Parsed::Number(0);
+    }
+    number_given(11, b"MASK")
+}
+
+fn answer_caller(
+    section: &[u8],
+    stack: &[u8],
+    process: Process,
+    registers: Registers,
+    given: usize,
+) {
     let Parsed::Number(first) = number_given(10, b"FIRST") else {
         return;
     };
+    let Parsed::Number(mask) = mask_given(given) else {
+        return;
+    };
+    let mut masked = process;
+    masked.mask = mask;
     let mut marked = registers;
     marked.first = first;
-    show_step(marked.step(section, stack, lies));
+    show_step(marked.step(section, stack, masked));
 }
 
 fn words_room() -> [u64; WORDS] {
@@ -84,38 +106,50 @@ fn written_in(buffer: &[u64], frames: u64) -> usize
 fn trace_into(
     section: &[u8],
     stack: &[u8],
-    lies: Where,
+    process: Process,
     registers: Registers,
     limit: u64,
     buffer: &mut [u64],
 ) {
-    let traced = trace(section, stack, lies, registers, limit, buffer);
+    let traced = trace(section, stack, process, registers, limit, buffer);
     let written = written_in(buffer, traced.frames);
     show_trace(registers, traced, &buffer[..written]);
 }
 
-fn answer_trace(section: &[u8], stack: &[u8], lies: Where, registers: Registers) {
+fn answer_trace(
+    section: &[u8],
+    stack: &[u8],
+    process: Process,
+    registers: Registers,
+    given: usize,
+) {
     let Parsed::Number(limit) = count_given(10, b"LIMIT") else {
         return;
     };
+    let Parsed::Number(mask) = mask_given(given) else {
+        return;
+    };
+    let mut masked = process;
+    masked.mask = mask;
     let mut buffer = words_room();
-    trace_into(section, stack, lies, registers, limit, &mut buffer);
+    trace_into(section, stack, masked, registers, limit, &mut buffer);
 }
 
-fn answer_from(asked: Sought, section: &[u8], address: u64, stack: &[u8]) {
+fn answer_from(asked: Sought, section: &[u8], address: u64, stack: &[u8], given: usize) {
     match start_given() {
         Start::Wrong => {}
         Start::From {
             registers,
             stack: lies,
         } => {
-            let lies = Where {
+            let process = Process {
                 section: address,
                 stack: lies,
+                mask: 0,
             };
             match asked {
-                Sought::Caller => answer_caller(section, stack, lies, registers),
-                Sought::Trace => answer_trace(section, stack, lies, registers),
+                Sought::Caller => answer_caller(section, stack, process, registers, given),
+                Sought::Trace => answer_trace(section, stack, process, registers, given),
             }
         }
     }
@@ -125,13 +159,13 @@ fn stack_room() -> [u8; STACK + 1] {
     [0u8; STACK + 1]
 }
 
-pub fn answer_walk(asked: Sought, section: &[u8]) {
+pub fn answer_walk(asked: Sought, section: &[u8], given: usize) {
     let Parsed::Number(address) = number_given(3, b"ADDRESS") else {
         return;
     };
     let mut room = stack_room();
     match file_given(4, b"sframe: STACK", STACK as u64, &mut room) {
         Loaded::Failed => {}
-        Loaded::Bytes(n) => answer_from(asked, section, address, &room[..n]),
+        Loaded::Bytes(n) => answer_from(asked, section, address, &room[..n], given),
     }
 }

@@ -47,7 +47,7 @@ use Rattle.caller.specs.computed.Caller.{stepIn}
 use Rattle.caller.specs.declared.registers.Registers.{Registers}
 use Rattle.caller.specs.declared.registers.Step.{Step}
 use Rattle.caller.specs.declared.registers.Step.the-variants as step
-use Rattle.caller.specs.declared.registers.Where.{Where}
+use Rattle.caller.specs.declared.registers.Process.{Process}
 use Rattle.caller.proofs.Exactly.{step-exactly-when}
 use Rattle.caller.proofs.NumberLaws.{number-of-refusal}
 use Rattle.trace.specs.Cases as traces
@@ -248,27 +248,27 @@ outcome-numbered s address pc = by (lookupOf s address pc .outcome) refl
     by (outcome.Dispute first second) is = tt
     by (outcome.NoRow function) is = tt
 
-module _ (s stack : List ℕ) (lies : Where) (registers : Registers) where
-  step-numbered : StepNumbered (stepIn s stack lies registers)
+module _ (s stack : List ℕ) (process : Process) (registers : Registers) where
+  step-numbered : StepNumbered (stepIn s stack process registers)
   unfolding numberOfStepCause
-  step-numbered = by (stepIn s stack lies registers) (step-exactly-when s stack lies registers _ .0 refl)
+  step-numbered = by (stepIn s stack process registers) (step-exactly-when s stack process registers _ .0 refl)
     where
-      by : (o : Step) → steps.Case s stack lies registers o → StepNumbered o
+      by : (o : Step) → steps.Case s stack process registers o → StepNumbered o
       by (step.Caller caller) case = tt
       by (step.Unsound old number index) (same, (fits, rule, is, given)) = rw is (number-of-rule rule)
       by (step.Refused old number) (same, inl (is, past)) = omega (arith, is)
       by (step.Refused old number) (same, inr (refusal, is, on)) = omega (arith, is, number-of-refusal refusal)
 
-  trace-numbered : (limit : ℕ) (old : List ℕ) → EndingNumbered (traceOf s stack lies registers limit old .answer .ending)
+  trace-numbered : (limit : ℕ) (old : List ℕ) → EndingNumbered (traceOf s stack process registers limit old .answer .ending)
   unfolding traceOf traced tracedAs numberOfTraceCause numberOfStepCause
   trace-numbered limit old =
-      let walk = walkIn s stack lies registers limit (length old) in
-      by (walk .frames) (walk .ending) (some-case s stack lies registers limit old)
+      let walk = walkIn s stack process registers limit (length old) in
+      by (walk .frames) (walk .ending) (some-case s stack process registers limit old)
     where
       own : (number : ℕ) → 21 ≤ number → number ≤ 28 → EndingNumbered (ending.Refused number)
       own number least most = (omega arith, (λ is. omega arith), (λ is. omega arith), not-doors number (omega arith))
 
-      by : (frames : List Frame) (e : Ending) → traces.Case s stack lies registers limit old frames e → EndingNumbered e
+      by : (frames : List Frame) (e : Ending) → traces.Case s stack process registers limit old frames e → EndingNumbered e
       by frames ending.Outermost case = tt
       by frames ending.Full case = tt
       by frames (ending.Refused number) case =
@@ -290,14 +290,14 @@ function-read-back s index = read-function (describedOf s index) (described-numb
 pub lookup-read-back : (s : List ℕ) (address pc : ℕ) → readAnswer (flatAnswer (lookupOf s address pc)) ≡ lookupOf s address pc
 lookup-read-back s address pc = read-answer (lookupOf s address pc) (outcome-numbered s address pc)
 
-pub caller-read-back : (s stack : List ℕ) (lies : Where) (registers : Registers)
-    → readStep (flatStep (stepIn s stack lies registers)) ≡ stepIn s stack lies registers
-caller-read-back s stack lies registers = read-step (stepIn s stack lies registers) (step-numbered s stack lies registers)
+pub caller-read-back : (s stack : List ℕ) (process : Process) (registers : Registers)
+    → readStep (flatStep (stepIn s stack process registers)) ≡ stepIn s stack process registers
+caller-read-back s stack process registers = read-step (stepIn s stack process registers) (step-numbered s stack process registers)
 
-pub trace-read-back : (s stack : List ℕ) (lies : Where) (registers : Registers) (limit : ℕ) (old : List ℕ)
-    → readTrace (flatTrace (traceOf s stack lies registers limit old)) ≡ traceOf s stack lies registers limit old
-trace-read-back s stack lies registers limit old =
-    read-trace (traceOf s stack lies registers limit old) (trace-numbered s stack lies registers limit old)
+pub trace-read-back : (s stack : List ℕ) (process : Process) (registers : Registers) (limit : ℕ) (old : List ℕ)
+    → readTrace (flatTrace (traceOf s stack process registers limit old)) ≡ traceOf s stack process registers limit old
+trace-read-back s stack process registers limit old =
+    read-trace (traceOf s stack process registers limit old) (trace-numbered s stack process registers limit old)
 
 -- ---- and equal structs come from equal answers
 
@@ -326,15 +326,15 @@ pub lookup-lossless : (s t : List ℕ) (address other pc also : ℕ)
 lookup-lossless s t address other pc also =
     lossless flatAnswer readAnswer _ _ (lookup-read-back s address pc) (lookup-read-back t other also)
 
-pub caller-lossless : (s t stack window : List ℕ) (lies elsewhere : Where) (registers others : Registers)
-    → flatStep (stepIn s stack lies registers) ≡ flatStep (stepIn t window elsewhere others)
-    → stepIn s stack lies registers ≡ stepIn t window elsewhere others
-caller-lossless s t stack window lies elsewhere registers others =
-    lossless flatStep readStep _ _ (caller-read-back s stack lies registers) (caller-read-back t window elsewhere others)
+pub caller-lossless : (s t stack window : List ℕ) (process another : Process) (registers others : Registers)
+    → flatStep (stepIn s stack process registers) ≡ flatStep (stepIn t window another others)
+    → stepIn s stack process registers ≡ stepIn t window another others
+caller-lossless s t stack window process another registers others =
+    lossless flatStep readStep _ _ (caller-read-back s stack process registers) (caller-read-back t window another others)
 
 -- the frames, the ending and every word of the buffer
-pub trace-lossless : (s t stack window : List ℕ) (lies elsewhere : Where) (registers others : Registers) (limit most : ℕ) (old held : List ℕ)
-    → flatTrace (traceOf s stack lies registers limit old) ≡ flatTrace (traceOf t window elsewhere others most held)
-    → traceOf s stack lies registers limit old ≡ traceOf t window elsewhere others most held
-trace-lossless s t stack window lies elsewhere registers others limit most old held =
-    lossless flatTrace readTrace _ _ (trace-read-back s stack lies registers limit old) (trace-read-back t window elsewhere others most held)
+pub trace-lossless : (s t stack window : List ℕ) (process another : Process) (registers others : Registers) (limit most : ℕ) (old held : List ℕ)
+    → flatTrace (traceOf s stack process registers limit old) ≡ flatTrace (traceOf t window another others most held)
+    → traceOf s stack process registers limit old ≡ traceOf t window another others most held
+trace-lossless s t stack window process another registers others limit most old held =
+    lossless flatTrace readTrace _ _ (trace-read-back s stack process registers limit old) (trace-read-back t window another others most held)

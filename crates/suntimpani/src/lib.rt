@@ -20,8 +20,8 @@ use crate::walks::TracedInC;
 use crate::walks::flat_step;
 use crate::walks::flat_traced;
 use accept::section_check::check;
+use caller::registers::Process;
 use caller::registers::Registers;
-use caller::registers::Where;
 use listing::function::function_at;
 use listing::reader::place_in;
 use listing::rows::row_turn;
@@ -78,24 +78,24 @@ pub extern "C" fn suntimpani_lookup(section: &[u8], address: u64, pc: u64) -> An
 pub extern "C" fn suntimpani_caller(
     section: &[u8],
     stack: &[u8],
-    lies: Where,
+    process: Process,
     registers: Registers,
 ) -> StepInC
-    ensures { λ r. ⌜ r ≡ flatStep (stepIn (now (section .entry)) (now (stack .entry)) lies registers) ⌝ }
+    ensures { λ r. ⌜ r ≡ flatStep (stepIn (now (section .entry)) (now (stack .entry)) process registers) ⌝ }
 {
-    flat_step(registers.step(section, stack, lies))
+    flat_step(registers.step(section, stack, process))
 }
 
 #[no_mangle]
 pub extern "C" fn suntimpani_trace(
     section: &[u8],
     stack: &[u8],
-    lies: Where,
+    process: Process,
     registers: Registers,
     limit: u64,
     buffer: &mut [u64],
 ) -> TracedInC
-    ensures { λ r. ⌜ handedAs r (now (buffer .exit)) ≡ flatTrace (traceOf (now (section .entry)) (now (stack .entry)) lies registers limit (now (buffer .entry))) ⌝ }
+    ensures { λ r. ⌜ handedAs r (now (buffer .exit)) ≡ flatTrace (traceOf (now (section .entry)) (now (stack .entry)) process registers limit (now (buffer .entry))) ⌝ }
 {
-    flat_traced(trace(section, stack, lies, registers, limit, buffer))
+    flat_traced(trace(section, stack, process, registers, limit, buffer))
 }

@@ -14,7 +14,7 @@ use Rattle.caller.specs.Frame.{askedOf}
 use Rattle.caller.specs.Numbers.{unfound, numberOfRefusal}
 use Rattle.caller.specs.declared.registers.Asked.the-variants.{At, Nowhere}
 use Rattle.caller.specs.declared.registers.Registers.{Registers}
-use Rattle.caller.specs.declared.registers.Where.{Where}
+use Rattle.caller.specs.declared.registers.Process.{Process}
 use Rattle.caller.proofs.Asked.{asked-exactly-when, nowhere-exactly-when}
 use Rattle.trace.specs.Cases.{Follows, NotOutermost, EndsRefused, WalkMade}
 use Rattle.trace.specs.Frames.{inForce, withMark}
@@ -28,7 +28,7 @@ pub asked-first : (registers : Registers) → askedOf (withMark registers) ≡ A
 unfolding withMark
 asked-first registers = asked-exactly-when (withMark registers) (registers .pc) .1 (inl ((λ e. omega arith), refl))
 
-module _ (s stack : List ℕ) (lies : Where) (registers : Registers) {frames : List Frame} (f : Follows (CallerCase s stack lies) (withMark registers) frames) where
+module _ (s stack : List ℕ) (process : Process) (registers : Registers) {frames : List Frame} (f : Follows (CallerCase s stack process) (withMark registers) frames) where
   -- every later step, also one that is refused, asks its return address minus 1
   pub asked-later : (k : ℕ) → k < length frames → ¬ (f .at (suc k) .pc ≡ 0) → askedOf (f .at (suc k)) ≡ At (f .at (suc k) .pc - 1)
   asked-later k less far =
@@ -44,28 +44,28 @@ module _ (s stack : List ℕ) (lies : Where) (registers : Registers) {frames : L
       omega (arith, none, marked)
   never-nowhere (suc k) far e = far (omega arith) (nowhere-exactly-when (f .at (suc k)) .0 e .1)
 
-module _ (s stack : List ℕ) (lies : Where) (registers : Registers) (limit : ℕ) (old : List ℕ) where
+module _ (s stack : List ℕ) (process : Process) (registers : Registers) (limit : ℕ) (old : List ℕ) where
   -- a walk that is made ends where this holds of the registers of its next step
   abbrev EndedWhere : (Registers → Type 0) → Type 0
-  EndedWhere Here = (frames : List Frame) × WalkMade s stack lies registers limit old frames (EndsRefused Here (inForce limit))
+  EndedWhere Here = (frames : List Frame) × WalkMade s stack process registers limit old frames (EndsRefused Here (inForce limit))
 
   -- it has a PC to ask
-  none-covers-asked : EndedWhere (λ last. OnRefusal s stack lies last (unfound noFunction)) → EndedWhere (λ last. LookedUp s stack lies last (NoneCovers s))
+  none-covers-asked : EndedWhere (λ last. OnRefusal s stack process last (unfound noFunction)) → EndedWhere (λ last. LookedUp s stack process last (NoneCovers s))
   none-covers-asked (frames, w) =
       let (less, far, refused) = w .walk .ends in
-      let nowhere = never-nowhere s stack lies registers (w .walk .follows) (length frames) far in
+      let nowhere = never-nowhere s stack process registers (w .walk .follows) (length frames) far in
       let here = ⊎-elim (λ h. h) (λ h. absurd (nowhere (h .asked))) refused in
       (frames, record { opened = w .opened; obeys = w .obeys; walk = record { follows = w .walk .follows; ends = (less, far, here) } })
 
-  asked-refused : EndedWhere (λ last. LookedUp s stack lies last (NoneCovers s)) → EndedWhere (λ last. OnRefusal s stack lies last (unfound noFunction))
+  asked-refused : EndedWhere (λ last. LookedUp s stack process last (NoneCovers s)) → EndedWhere (λ last. OnRefusal s stack process last (unfound noFunction))
   asked-refused (frames, w) =
       let (less, far, none) = w .walk .ends in
       (frames, record { opened = w .opened; obeys = w .obeys; walk = record { follows = w .walk .follows; ends = (less, far, inl none) } })
 
   -- 21 ends a trace exactly when no function covers the PC that its next step asks
-  pub number-21-exactly-when : (endingNumber (traceOf s stack lies registers limit old .answer .ending) ≡ 21)
+  pub number-21-exactly-when : (endingNumber (traceOf s stack process registers limit old .answer .ending) ≡ 21)
       ↔ ((frames : List Frame)
-      × WalkMade s stack lies registers limit old frames (EndsRefused (λ last. LookedUp s stack lies last (NoneCovers s)) (inForce limit)))
+      × WalkMade s stack process registers limit old frames (EndsRefused (λ last. LookedUp s stack process last (NoneCovers s)) (inForce limit)))
   unfolding numberOfRefusal numberOfUnfound
   number-21-exactly-when =
-      Iff·trans (trace.refused-exactly-when s stack lies registers limit old (unfound noFunction)) (none-covers-asked, asked-refused)
+      Iff·trans (trace.refused-exactly-when s stack process registers limit old (unfound noFunction)) (none-covers-asked, asked-refused)

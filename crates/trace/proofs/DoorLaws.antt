@@ -21,7 +21,7 @@ use Rattle.lookup.proofs.CoveringLaws.{by-value}
 use Rattle.caller.specs.Cases.{Rule41}
 use Rattle.caller.specs.Numbers.{numberOfStepCause}
 use Rattle.caller.specs.declared.registers.Registers.{Registers}
-use Rattle.caller.specs.declared.registers.Where.{Where}
+use Rattle.caller.specs.declared.registers.Process.{Process}
 use Rattle.trace.specs.Cases.{LimitAbove, TooFewWords, AtDoor, DoorOpen}
 use Rattle.trace.specs.Frames.{inForce, withMark, allWords, over, tracedAs}
 use Rattle.trace.specs.Numbers.{numberOfTraceCause}
@@ -37,39 +37,39 @@ in-force-small limit small =
 
 -- ---- the door, test by test
 
-module _ (stack : List ℕ) (lies : Where) (limit words : ℕ) where
-  pub door-window : windowFits stack (lies .stack) ≡ false → Breaks 41 ≡ doorFault stack lies limit words
+module _ (stack : List ℕ) (process : Process) (limit words : ℕ) where
+  pub door-window : windowFits stack (process .stack) ≡ false → Breaks 41 ≡ doorFault stack process limit words
   unfolding doorFault doorTests firstBad
   door-window out = rw (out, firstBad)
 
-  module _ (fits : windowFits stack (lies .stack) ≡ true) where
-    pub door-limit : 256 < limit → Breaks 42 ≡ doorFault stack lies limit words
+  module _ (fits : windowFits stack (process .stack) ≡ true) where
+    pub door-limit : 256 < limit → Breaks 42 ≡ doorFault stack process limit words
     unfolding doorFault doorTests firstBad
     door-limit high = rw (fits, firstBad) (rw (lt-ltb 256 limit high))
 
     module _ (allowed : limit ≤ 256) where
-      pub door-words : words < 3 * inForce limit → Breaks 43 ≡ doorFault stack lies limit words
+      pub door-words : words < 3 * inForce limit → Breaks 43 ≡ doorFault stack process limit words
       unfolding doorFault doorTests firstBad
       door-words few = rw (fits, firstBad) (rw (le-ltb 256 limit allowed, firstBad) (rw (lt-ltb words (3 * inForce limit) few)))
 
-      pub door-open : 3 * inForce limit ≤ words → Sound ≡ doorFault stack lies limit words
+      pub door-open : 3 * inForce limit ≤ words → Sound ≡ doorFault stack process limit words
       unfolding doorFault doorTests firstBad
       door-open enough = rw (fits, firstBad) (rw (le-ltb 256 limit allowed, firstBad) (rw (le-ltb words (3 * inForce limit) enough)))
 
 -- ---- the door, by its rules
 
-module _ (stack : List ℕ) (lies : Where) (limit : ℕ) (buffer : List ℕ) where
+module _ (stack : List ℕ) (process : Process) (limit : ℕ) (buffer : List ℕ) where
   abbrev tests : List (Bool × ℕ)
-  tests = doorTests stack lies limit (length buffer)
+  tests = doorTests stack process limit (length buffer)
 
   abbrev rules : List (Type 0)
-  rules = (lies .stack + length stack ≤ 2 ^ 64) ∷ (limit ≤ 256) ∷ (3 * inForce limit ≤ length buffer) ∷ []
+  rules = (process .stack + length stack ≤ 2 ^ 64) ∷ (limit ≤ 256) ∷ (3 * inForce limit ≤ length buffer) ∷ []
 
   door-table : Table tests rules
   unfolding doorTests windowFits
   door-table = line (unless (at-most _ _)) (line (not-below _ _) (line (not-below _ _) end))
 
-  door-opens : (doorFault stack lies limit (length buffer) ≡ Sound) ↔ DoorOpen stack lies limit buffer
+  door-opens : (doorFault stack process limit (length buffer) ≡ Sound) ↔ DoorOpen stack process limit buffer
   unfolding doorFault
   door-opens =
       Iff·trans (table-sound door-table) (
@@ -77,7 +77,7 @@ module _ (stack : List ℕ) (lies : Where) (limit : ℕ) (buffer : List ℕ) whe
         λ h. (omega arith, (omega arith, (omega arith, tt))),
       )
 
-  broken-at : (number : ℕ) → FirstBroken tests rules number ↔ AtDoor stack lies limit buffer number
+  broken-at : (number : ℕ) → FirstBroken tests rules number ↔ AtDoor stack process limit buffer number
   unfolding doorTests numberOfTraceCause numberOfStepCause
   broken-at number = (
     ⊎-elim
@@ -92,107 +92,107 @@ module _ (stack : List ℕ) (lies : Where) (limit : ℕ) (buffer : List ℕ) whe
         (⊎-elim (λ h. inr (omega arith, inl (h .0, omega arith))) (λ h. inr (omega arith, inr (omega arith, inl (h .0, omega arith))))),
   )
 
-  door-shuts : (number : ℕ) → (doorFault stack lies limit (length buffer) ≡ Breaks number) ↔ AtDoor stack lies limit buffer number
+  door-shuts : (number : ℕ) → (doorFault stack process limit (length buffer) ≡ Breaks number) ↔ AtDoor stack process limit buffer number
   unfolding doorFault
   door-shuts number = Iff·trans (table-breaks door-table number) (broken-at number)
 
   -- one number at a time
-  pub door-41 : AtDoor stack lies limit buffer 41 ↔ Rule41 stack lies
+  pub door-41 : AtDoor stack process limit buffer 41 ↔ Rule41 stack process
   unfolding numberOfTraceCause numberOfStepCause
   door-41 = (⊎-elim (λ h. h .1) (⊎-elim (λ h. absurd (omega arith)) (λ h. absurd (omega arith))), λ h. inl (refl, h))
 
-  pub door-42 : AtDoor stack lies limit buffer 42 ↔ ((¬ Rule41 stack lies) × LimitAbove limit)
+  pub door-42 : AtDoor stack process limit buffer 42 ↔ ((¬ Rule41 stack process) × LimitAbove limit)
   unfolding numberOfTraceCause numberOfStepCause
   door-42 = (
     ⊎-elim (λ h. absurd (omega arith)) (⊎-elim (λ h. (h .1, h .2)) (λ h. absurd (omega arith))),
     λ h. inr (inl (refl, h .0, h .1)),
   )
 
-  pub door-43 : AtDoor stack lies limit buffer 43 ↔ ((¬ Rule41 stack lies) × (¬ LimitAbove limit) × TooFewWords limit buffer)
+  pub door-43 : AtDoor stack process limit buffer 43 ↔ ((¬ Rule41 stack process) × (¬ LimitAbove limit) × TooFewWords limit buffer)
   unfolding numberOfTraceCause numberOfStepCause
   door-43 = (
     ⊎-elim (λ h. absurd (omega arith)) (⊎-elim (λ h. absurd (omega arith)) (λ h. (h .1, h .2, h .3))),
     λ h. inr (inr (refl, h .0, h .1, h .2)),
   )
 
-  pub door-number : (number : ℕ) → AtDoor stack lies limit buffer number → (41 ≤ number) × (number ≤ 43)
+  pub door-number : (number : ℕ) → AtDoor stack process limit buffer number → (41 ≤ number) × (number ≤ 43)
   unfolding numberOfTraceCause numberOfStepCause
   door-number number = ⊎-elim (λ h. omega arith) (⊎-elim (λ h. omega arith) (λ h. omega arith))
 
-  pub not-open : (number : ℕ) → AtDoor stack lies limit buffer number → ¬ DoorOpen stack lies limit buffer
+  pub not-open : (number : ℕ) → AtDoor stack process limit buffer number → ¬ DoorOpen stack process limit buffer
   not-open number at opened =
       ⊎-elim (λ h. opened .in-memory (h .1)) (⊎-elim (λ h. opened .allowed (h .2)) (λ h. opened .room (h .3))) at
 
   -- what a walk may rely on where nothing was refused
-  pub door-allows : doorFault stack lies limit (length buffer) ≡ Sound → (limit ≤ 256) × (3 * inForce limit ≤ length buffer)
+  pub door-allows : doorFault stack process limit (length buffer) ≡ Sound → (limit ≤ 256) × (3 * inForce limit ≤ length buffer)
   door-allows open-door = let opened = door-opens .0 open-door in (omega (arith, opened .allowed), omega (arith, opened .room))
 
   -- the three ways
   pub data Way (s : List ℕ) : Type 0 where
-    shut : (number : ℕ) → AtDoor stack lies limit buffer number → Way s
-    unsound-way : DoorOpen stack lies limit buffer → (number index : ℕ) → verdict s ≡ verdict.Refused number index → Way s
-    sound : DoorOpen stack lies limit buffer → verdict s ≡ verdict.Accepted → Way s
+    shut : (number : ℕ) → AtDoor stack process limit buffer number → Way s
+    unsound-way : DoorOpen stack process limit buffer → (number index : ℕ) → verdict s ≡ verdict.Refused number index → Way s
+    sound : DoorOpen stack process limit buffer → verdict s ≡ verdict.Accepted → Way s
 
-  way-in : (s : List ℕ) → DoorOpen stack lies limit buffer → (v : Verdict) → verdict s ≡ v → Way s
+  way-in : (s : List ℕ) → DoorOpen stack process limit buffer → (v : Verdict) → verdict s ≡ v → Way s
   way-in s opened verdict.Accepted e = sound opened e
   way-in s opened (verdict.Refused number index) e = unsound-way opened number index e
 
-  way-by : (s : List ℕ) (fault : Fault) → doorFault stack lies limit (length buffer) ≡ fault → Way s
+  way-by : (s : List ℕ) (fault : Fault) → doorFault stack process limit (length buffer) ≡ fault → Way s
   way-by s Sound e = way-in s (door-opens .0 e) (verdict s) refl
   way-by s (Breaks number) e = shut number (door-shuts number .0 e)
 
   pub way : (s : List ℕ) → Way s
-  way s = way-by s (doorFault stack lies limit (length buffer)) refl
+  way s = way-by s (doorFault stack process limit (length buffer)) refl
 
 -- ---- what comes of it
 
-module _ (s stack : List ℕ) (lies : Where) (registers : Registers) (limit : ℕ) (buffer : List ℕ) where
-  refused-walk : {number : ℕ} → doorFault stack lies limit (length buffer) ≡ Breaks number
-      → walkIn s stack lies registers limit (length buffer) ≡ ended (Shut number)
+module _ (s stack : List ℕ) (process : Process) (registers : Registers) (limit : ℕ) (buffer : List ℕ) where
+  refused-walk : {number : ℕ} → doorFault stack process limit (length buffer) ≡ Breaks number
+      → walkIn s stack process registers limit (length buffer) ≡ ended (Shut number)
   unfolding walkIn afterDoor
   refused-walk broken = rw broken
 
-  pub shut-walk : (number : ℕ) → AtDoor stack lies limit buffer number
-      → walkIn s stack lies registers limit (length buffer) ≡ ended (Shut number)
-  shut-walk number at = refused-walk (door-shuts stack lies limit buffer number .1 at)
+  pub shut-walk : (number : ℕ) → AtDoor stack process limit buffer number
+      → walkIn s stack process registers limit (length buffer) ≡ ended (Shut number)
+  shut-walk number at = refused-walk (door-shuts stack process limit buffer number .1 at)
 
   -- the same as the code answers it, with the buffer as it was
-  pub refused-at-door : {number : ℕ} → doorFault stack lies limit (length buffer) ≡ Breaks number
-      → tracedAs (record { ending = Shut number; frames = 0 }) buffer ≡ traceOf s stack lies registers limit buffer
+  pub refused-at-door : {number : ℕ} → doorFault stack process limit (length buffer) ≡ Breaks number
+      → tracedAs (record { ending = Shut number; frames = 0 }) buffer ≡ traceOf s stack process registers limit buffer
   unfolding traceOf traced ended allWords over
   refused-at-door broken = ap (λ w. traced w buffer) (sym (refused-walk broken))
 
-  module _ (open-door : doorFault stack lies limit (length buffer) ≡ Sound) where
-    past-door : walkIn s stack lies registers limit (length buffer)
-        ≡ walkAfter (verdict s) (checkedWalk s stack lies (inForce limit) (withMark registers))
+  module _ (open-door : doorFault stack process limit (length buffer) ≡ Sound) where
+    past-door : walkIn s stack process registers limit (length buffer)
+        ≡ walkAfter (verdict s) (checkedWalk s stack process (inForce limit) (withMark registers))
     unfolding walkIn afterDoor
     past-door = rw open-door
 
     refused-section : {number index : ℕ} → verdict s ≡ verdict.Refused number index
-        → walkIn s stack lies registers limit (length buffer) ≡ ended (Unsound number index)
+        → walkIn s stack process registers limit (length buffer) ≡ ended (Unsound number index)
     unfolding walkAfter
     refused-section bad = past-door ∙ rw bad
 
     accepted-section : verdict s ≡ verdict.Accepted
-        → walkIn s stack lies registers limit (length buffer) ≡ checkedWalk s stack lies (inForce limit) (withMark registers)
+        → walkIn s stack process registers limit (length buffer) ≡ checkedWalk s stack process (inForce limit) (withMark registers)
     unfolding walkAfter
     accepted-section good = past-door ∙ rw good
 
     pub refused-by-section : {number index : ℕ} → verdict s ≡ verdict.Refused number index
-        → tracedAs (record { ending = Unsound number index; frames = 0 }) buffer ≡ traceOf s stack lies registers limit buffer
+        → tracedAs (record { ending = Unsound number index; frames = 0 }) buffer ≡ traceOf s stack process registers limit buffer
     unfolding traceOf traced ended allWords over
     refused-by-section bad = ap (λ w. traced w buffer) (sym (refused-section bad))
 
     pub walked : verdict s ≡ verdict.Accepted
-        → traced (checkedWalk s stack lies (inForce limit) (withMark registers)) buffer ≡ traceOf s stack lies registers limit buffer
+        → traced (checkedWalk s stack process (inForce limit) (withMark registers)) buffer ≡ traceOf s stack process registers limit buffer
     unfolding traceOf
     walked good = ap (λ w. traced w buffer) (sym (accepted-section good))
 
-  module _ (opened : DoorOpen stack lies limit buffer) where
+  module _ (opened : DoorOpen stack process limit buffer) where
     pub unsound-walk : (number index : ℕ) → verdict s ≡ verdict.Refused number index
-        → walkIn s stack lies registers limit (length buffer) ≡ ended (Unsound number index)
-    unsound-walk number index bad = refused-section (door-opens stack lies limit buffer .1 opened) bad
+        → walkIn s stack process registers limit (length buffer) ≡ ended (Unsound number index)
+    unsound-walk number index bad = refused-section (door-opens stack process limit buffer .1 opened) bad
 
     pub open-walk : verdict s ≡ verdict.Accepted
-        → walkIn s stack lies registers limit (length buffer) ≡ checkedWalk s stack lies (inForce limit) (withMark registers)
-    open-walk good = accepted-section (door-opens stack lies limit buffer .1 opened) good
+        → walkIn s stack process registers limit (length buffer) ≡ checkedWalk s stack process (inForce limit) (withMark registers)
+    open-walk good = accepted-section (door-opens stack process limit buffer .1 opened) good

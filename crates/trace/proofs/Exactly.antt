@@ -23,7 +23,7 @@ use Rattle.caller.specs.Frame.{cfaOfSp}
 use Rattle.caller.specs.Numbers.{Refusal, numberOfRefusal, numberOfStepCause}
 use Rattle.caller.specs.declared.registers.Registers.{Registers}
 use Rattle.caller.specs.declared.registers.Step.{Step}
-use Rattle.caller.specs.declared.registers.Where.{Where}
+use Rattle.caller.specs.declared.registers.Process.{Process}
 use Rattle.caller.proofs.Exactly.{cfa-of-caller}
 use Rattle.trace.specs.Cases.{LimitAbove, TooFewWords, AtDoor, DoorOpen, noFrame, Follows, EndsOutermost, EndsFull, EndsRefused, WalkMade, OnTrace, Case}
 use Rattle.trace.specs.Frames.{TraceReply, inForce, frameOf, withMark, allWords, over, tracedAs}
@@ -48,106 +48,106 @@ pub in-force-else : (limit : ℕ) → ¬ (limit ≡ 0) → inForce limit ≡ lim
 unfolding inForce
 in-force-else limit other = rw (ne-eqb limit 0 other, inForce)
 
-module _ (s stack : List ℕ) (lies : Where) (registers : Registers) (limit : ℕ) (old : List ℕ) where
+module _ (s stack : List ℕ) (process : Process) (registers : Registers) (limit : ℕ) (old : List ℕ) where
   abbrev trace : TraceReply
-  trace = traceOf s stack lies registers limit old
+  trace = traceOf s stack process registers limit old
 
   -- its frames and its ending
   abbrev walk : Walk
-  walk = walkIn s stack lies registers limit (length old)
+  walk = walkIn s stack process registers limit (length old)
 
   -- ---- endings
 
   -- every ending at once, with its frames; the theorems below are its cases
   pub trace-exactly-when : (frames : List Frame) (ending : Ending)
-      → (walk ≡ record { frames = frames; ending = ending }) ↔ Case s stack lies registers limit old frames ending
+      → (walk ≡ record { frames = frames; ending = ending }) ↔ Case s stack process registers limit old frames ending
   trace-exactly-when frames ending = (
-    λ e. subst (λ w. Case s stack lies registers limit old (w .frames) (w .ending)) e (trace-case s stack lies registers limit old),
-    case-whole s stack lies registers limit old frames ending,
+    λ e. subst (λ w. Case s stack process registers limit old (w .frames) (w .ending)) e (trace-case s stack process registers limit old),
+    case-whole s stack process registers limit old frames ending,
   )
 
   -- one case is every trace's, and no two are
-  pub some-case : Case s stack lies registers limit old (walk .frames) (walk .ending)
-  some-case = trace-case s stack lies registers limit old
+  pub some-case : Case s stack process registers limit old (walk .frames) (walk .ending)
+  some-case = trace-case s stack process registers limit old
 
-  pub case-once : (frames others : List Frame) (ending other : Ending) → Case s stack lies registers limit old frames ending
-      → Case s stack lies registers limit old others other → (frames ≡ others) × (ending ≡ other)
+  pub case-once : (frames others : List Frame) (ending other : Ending) → Case s stack process registers limit old frames ending
+      → Case s stack process registers limit old others other → (frames ≡ others) × (ending ≡ other)
   case-once frames others ending other h also =
       let same = sym (trace-exactly-when frames ending .1 h) ∙ trace-exactly-when others other .1 also in
       (ap (λ w. w .frames) same, ap (λ w. w .ending) same)
 
   -- "The answer is the frame count and the ending."
-  pub case-answers : (frames : List Frame) (ending : Ending) → Case s stack lies registers limit old frames ending
+  pub case-answers : (frames : List Frame) (ending : Ending) → Case s stack process registers limit old frames ending
       → trace ≡ tracedAs (record { ending = ending; frames = length frames }) (over (allWords frames) old)
   unfolding traceOf traced
   case-answers frames ending h = ap (λ w. traced w old) (trace-exactly-when frames ending .1 h)
 
   -- every number at once, and one is every trace's
   pub number-exactly-when : (cause : TraceCause)
-      → (endingNumber (trace .answer .ending) ≡ numberOfTraceCause cause) ↔ OnTrace s stack lies registers limit old cause
+      → (endingNumber (trace .answer .ending) ≡ numberOfTraceCause cause) ↔ OnTrace s stack process registers limit old cause
   unfolding traceOf traced tracedAs
-  number-exactly-when = trace-given s stack lies registers limit old
+  number-exactly-when = trace-given s stack process registers limit old
 
-  pub some-cause : (cause : TraceCause) × OnTrace s stack lies registers limit old cause
-  some-cause = laws.some-cause s stack lies registers limit old
+  pub some-cause : (cause : TraceCause) × OnTrace s stack process registers limit old cause
+  some-cause = laws.some-cause s stack process registers limit old
 
   -- no two causes hold at once
-  pub cause-once : (cause other : TraceCause) → OnTrace s stack lies registers limit old cause → OnTrace s stack lies registers limit old other
+  pub cause-once : (cause other : TraceCause) → OnTrace s stack process registers limit old cause → OnTrace s stack process registers limit old other
       → cause ≡ other
   cause-once cause other on also =
       trace-distinct .same cause other (sym (number-exactly-when cause .1 on) ∙ number-exactly-when other .1 also)
 
   -- "41 stack address plus length above 2^64"
-  pub number-41-exactly-when : (endingNumber (trace .answer .ending) ≡ 41) ↔ Rule41 stack lies
+  pub number-41-exactly-when : (endingNumber (trace .answer .ending) ≡ 41) ↔ Rule41 stack process
   unfolding numberOfTraceCause numberOfStepCause
   number-41-exactly-when = number-exactly-when window
 
   -- "42 limit above 256"
-  pub number-42-exactly-when : (endingNumber (trace .answer .ending) ≡ 42) ↔ ((¬ Rule41 stack lies) × LimitAbove limit)
+  pub number-42-exactly-when : (endingNumber (trace .answer .ending) ≡ 42) ↔ ((¬ Rule41 stack process) × LimitAbove limit)
   unfolding numberOfTraceCause
   number-42-exactly-when = number-exactly-when limitAbove
 
   -- "43 fewer than 3 words per limit frame"
   pub number-43-exactly-when : (endingNumber (trace .answer .ending) ≡ 43)
-      ↔ ((¬ Rule41 stack lies) × (¬ LimitAbove limit) × TooFewWords limit old)
+      ↔ ((¬ Rule41 stack process) × (¬ LimitAbove limit) × TooFewWords limit old)
   unfolding numberOfTraceCause
   number-43-exactly-when = number-exactly-when tooFewWords
 
   -- the ending itself at the door, with each of the three
-  pub door-exactly-when : (number : ℕ) → (trace .answer .ending ≡ Shut number) ↔ AtDoor stack lies limit old number
+  pub door-exactly-when : (number : ℕ) → (trace .answer .ending ≡ Shut number) ↔ AtDoor stack process limit old number
   unfolding traceOf traced tracedAs
   door-exactly-when number = (
-    λ e. subst (Case s stack lies registers limit old (walk .frames)) e some-case .1,
-    λ at. ap (λ w. w .ending) (case-whole s stack lies registers limit old [] (Shut number) (refl, at)),
+    λ e. subst (Case s stack process registers limit old (walk .frames)) e some-case .1,
+    λ at. ap (λ w. w .ending) (case-whole s stack process registers limit old [] (Shut number) (refl, at)),
   )
 
   -- "then 1 to 15. These .. answer 0 frames with their number, and for 1 to 15 the entry's index."
   pub unsound-exactly-when : (rule : Rule) (index : ℕ)
-      → (trace .answer .ending ≡ Unsound (numberOfRule rule) index) ↔ (DoorOpen stack lies limit old × accept.Given s rule index)
+      → (trace .answer .ending ≡ Unsound (numberOfRule rule) index) ↔ (DoorOpen stack process limit old × accept.Given s rule index)
   unfolding traceOf traced tracedAs
   unsound-exactly-when rule index = (
     λ e.
-        let (none, opened, other, is, given) = subst (Case s stack lies registers limit old (walk .frames)) e some-case in
+        let (none, opened, other, is, given) = subst (Case s stack process registers limit old (walk .frames)) e some-case in
         (opened, rw (by-number rule other is) given),
-    λ h. ap (λ w. w .ending) (case-whole s stack lies registers limit old [] (Unsound (numberOfRule rule) index) (refl, h .0, rule, refl, h .1)),
+    λ h. ap (λ w. w .ending) (case-whole s stack process registers limit old [] (Unsound (numberOfRule rule) index) (refl, h .0, rule, refl, h .1)),
   )
 
   pub rule-exactly-when : (rule : Rule)
-      → (endingNumber (trace .answer .ending) ≡ numberOfRule rule) ↔ (DoorOpen stack lies limit old × BrokenFirst s rule)
+      → (endingNumber (trace .answer .ending) ≡ numberOfRule rule) ↔ (DoorOpen stack process limit old × BrokenFirst s rule)
   unfolding numberOfTraceCause
   rule-exactly-when rule = number-exactly-when (unsound rule)
 
   -- an index comes with 1 to 15 alone
   pub index-exactly-when : (index : ℕ)
-      → (endingIndexes (trace .answer .ending) ≡ index ∷ []) ↔ (DoorOpen stack lies limit old × (rule : Rule) × accept.Given s rule index)
+      → (endingIndexes (trace .answer .ending) ≡ index ∷ []) ↔ (DoorOpen stack process limit old × (rule : Rule) × accept.Given s rule index)
   unfolding endingIndexes traceOf traced tracedAs
   index-exactly-when index = (
     carried (walk .frames) (walk .ending) some-case,
     λ h. ap endingIndexes (unsound-exactly-when (h .1) index .1 (h .0, h .2)),
   )
     where
-      carried : (frames : List Frame) (ending : Ending) → Case s stack lies registers limit old frames ending → endingIndexes ending ≡ index ∷ []
-          → DoorOpen stack lies limit old × (rule : Rule) × accept.Given s rule index
+      carried : (frames : List Frame) (ending : Ending) → Case s stack process registers limit old frames ending → endingIndexes ending ≡ index ∷ []
+          → DoorOpen stack process limit old × (rule : Rule) × accept.Given s rule index
       carried frames Outermost h is = absurd (let z : _≡_ {A = ℕ} 0 1 = cc in omega arith)
       carried frames Full h is = absurd (let z : _≡_ {A = ℕ} 0 1 = cc in omega arith)
       carried frames (Refused n) h is = absurd (let z : _≡_ {A = ℕ} 0 1 = cc in omega arith)
@@ -160,19 +160,19 @@ module _ (s stack : List ℕ) (lies : Where) (registers : Registers) (limit : �
   pub refused-exactly-when : (refusal : Refusal)
       → (endingNumber (trace .answer .ending) ≡ numberOfRefusal refusal)
       ↔ ((frames : List Frame)
-      × WalkMade s stack lies registers limit old frames (EndsRefused (λ last. OnRefusal s stack lies last refusal) (inForce limit)))
+      × WalkMade s stack process registers limit old frames (EndsRefused (λ last. OnRefusal s stack process last refusal) (inForce limit)))
   unfolding numberOfTraceCause
   refused-exactly-when refusal = number-exactly-when (refused refusal)
 
   -- "RA 0 ends it with 30 (outermost), also in the last allowed frame"
   pub number-30-exactly-when : (endingNumber (trace .answer .ending) ≡ 30)
-      ↔ ((frames : List Frame) × WalkMade s stack lies registers limit old frames (EndsOutermost (inForce limit)))
+      ↔ ((frames : List Frame) × WalkMade s stack process registers limit old frames (EndsOutermost (inForce limit)))
   unfolding numberOfTraceCause
   number-30-exactly-when = number-exactly-when outermost
 
   -- "otherwise a full limit ends it with 31."
   pub number-31-exactly-when : (endingNumber (trace .answer .ending) ≡ 31)
-      ↔ ((frames : List Frame) × WalkMade s stack lies registers limit old frames (EndsFull (inForce limit)))
+      ↔ ((frames : List Frame) × WalkMade s stack process registers limit old frames (EndsFull (inForce limit)))
   unfolding numberOfTraceCause
   number-31-exactly-when = number-exactly-when full
 
@@ -180,15 +180,15 @@ module _ (s stack : List ℕ) (lies : Where) (registers : Registers) (limit : �
 
   -- "The walk starts with the mark set and writes each frame that a step yields.": frame 0 is the step from the registers handed in,
   -- with the mark, and each other frame the step from the registers of the one before it
-  pub frames-follow : Follows (CallerCase s stack lies) (withMark registers) (walk .frames)
-  frames-follow = whole-follows s stack lies registers limit old
+  pub frames-follow : Follows (CallerCase s stack process) (withMark registers) (walk .frames)
+  frames-follow = whole-follows s stack process registers limit old
 
   pub frame-count : trace .answer .frames ≡ length (walk .frames)
   unfolding traceOf traced tracedAs
   frame-count = refl
 
   pub at-most-limit : trace .answer .frames ≤ inForce limit
-  at-most-limit = rw frame-count (⊎-elim (λ none. omega arith) (λ some. some .1) (whole-room s stack lies registers limit old))
+  at-most-limit = rw frame-count (⊎-elim (λ none. omega arith) (λ some. some .1) (whole-room s stack process registers limit old))
 
   pub at-most-256 : trace .answer .frames ≤ 256
   at-most-256 =
@@ -196,7 +196,7 @@ module _ (s stack : List ℕ) (lies : Where) (registers : Registers) (limit : �
       (⊎-elim
       (λ none. omega arith)
       (λ some. let le : limit ≤ 256 = omega (arith, some .0 .allowed) in omega (arith, in-force-small limit le))
-      (whole-room s stack lies registers limit old))
+      (whole-room s stack process registers limit old))
 
   -- ---- words
 
@@ -205,7 +205,7 @@ module _ (s stack : List ℕ) (lies : Where) (registers : Registers) (limit : �
   words-are = refl
 
   fits : 3 * length (walk .frames) ≤ length old
-  fits = ⊎-elim (λ none. omega arith) (λ some. omega (arith, some .0 .room)) (whole-room s stack lies registers limit old)
+  fits = ⊎-elim (λ none. omega arith) (λ some. omega (arith, some .0 .room)) (whole-room s stack process registers limit old)
 
   -- "CFA, RA, FP each"
   pub words-written : (k : ℕ) → k < trace .answer .frames
@@ -222,7 +222,7 @@ module _ (s stack : List ℕ) (lies : Where) (registers : Registers) (limit : �
       )
 
   -- the step that yields frame k
-  pub step-of : (k : ℕ) → k < trace .answer .frames → CallerCase s stack lies (frames-follow .at k) (frames-follow .at (suc k))
+  pub step-of : (k : ℕ) → k < trace .answer .frames → CallerCase s stack process (frames-follow .at k) (frames-follow .at (suc k))
   step-of k lt = frames-follow .steps k (rw frame-count at lt)
 
   -- the same by the registers that the steps yield: CFA is the one that the step's row defines, RA the caller's PC, FP its FP
@@ -250,21 +250,21 @@ module _ (s stack : List ℕ) (lies : Where) (registers : Registers) (limit : �
   words-length = rw words-are (over-length (allWords (walk .frames)) old (omega (arith, all-length (walk .frames), fits)))
 
   -- "These write nothing and answer 0 frames": where the trace is refused at its door, or the section by 1 to 15
-  pub writes-nothing : ¬ (DoorOpen stack lies limit old × Obeys s) → (trace .answer .frames ≡ 0) × (trace .words ≡ old)
+  pub writes-nothing : ¬ (DoorOpen stack process limit old × Obeys s) → (trace .answer .frames ≡ 0) × (trace .words ≡ old)
   unfolding over allWords
   writes-nothing none-walks =
-      let none : walk .frames ≡ [] = whole-none s stack lies registers limit old none-walks in
+      let none : walk .frames ≡ [] = whole-none s stack process registers limit old none-walks in
       (frame-count ∙ ap length none, words-are ∙ ap (λ l. over (allWords l) old) none)
 
   -- the same by the ending
   pub door-writes-nothing : (number : ℕ) → trace .answer .ending ≡ Shut number → (trace .answer .frames ≡ 0) × (trace .words ≡ old)
-  door-writes-nothing number e = writes-nothing λ h. not-open stack lies limit old number (door-exactly-when number .0 e) (h .0)
+  door-writes-nothing number e = writes-nothing λ h. not-open stack process limit old number (door-exactly-when number .0 e) (h .0)
 
   pub unsound-writes-nothing : (number index : ℕ) → trace .answer .ending ≡ Unsound number index
       → (trace .answer .frames ≡ 0) × (trace .words ≡ old)
   unfolding traceOf traced tracedAs
   unsound-writes-nothing number index e =
-      let (none, opened, rule, is, given) = subst (Case s stack lies registers limit old (walk .frames)) e some-case in
+      let (none, opened, rule, is, given) = subst (Case s stack process registers limit old (walk .frames)) e some-case in
       writes-nothing λ h.
       accepted-or-refused (sym (accepted-exactly-when s .1 (h .1)) ∙ given-exactly-when s rule index .1 given)
 
@@ -274,10 +274,10 @@ pub walk-through-step : (step other : Registers → Step) → ((registers : Regi
     → (limit : ℕ) (registers : Registers) → walkOf step limit registers ≡ walkOf other limit registers
 walk-through-step step other same limit registers = ap (λ f. walkOf f limit registers) (fun-ext same)
 
-pub trace-through-look : (s other stack : List ℕ) (lies : Where) (registers : Registers) (limit : ℕ) (old : List ℕ)
+pub trace-through-look : (s other stack : List ℕ) (process : Process) (registers : Registers) (limit : ℕ) (old : List ℕ)
     → verdict s ≡ verdict.Accepted → verdict other ≡ verdict.Accepted → shapeOf s ≡ shapeOf other
-    → ((pc : ℕ) → lookIn s (lies .section) pc ≡ lookIn other (lies .section) pc)
-    → traceOf s stack lies registers limit old ≡ traceOf other stack lies registers limit old
+    → ((pc : ℕ) → lookIn s (process .section) pc ≡ lookIn other (process .section) pc)
+    → traceOf s stack process registers limit old ≡ traceOf other stack process registers limit old
 unfolding traceOf walkIn walkAfter checkedWalk
-trace-through-look s other stack lies registers limit old accepted also shape look =
+trace-through-look s other stack process registers limit old accepted also shape look =
     rw (accepted, also, shape, fun-ext look)

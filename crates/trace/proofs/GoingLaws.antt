@@ -11,16 +11,19 @@ use Rattle.caller.specs.declared.registers.Step.{Step}
 use Rattle.caller.specs.declared.registers.Step.the-variants as stepped
 use Rattle.trace.specs.Frames.{frameOf, wordsOf, tracedAs}
 use Rattle.trace.specs.computed.Trace.{ended, walkOf, traced}
-use Rattle.trace.specs.inner.Writing.{withoutMark, put}
+use Rattle.trace.specs.inner.Writing.{nextFrom, put}
 use Rattle.trace.specs.declared.answer.Ending.the-variants.{Outermost, Full, Refused}
 use Rattle.trace.proofs.BufferLaws.{put-length}
 use Rattle.trace.proofs.WalkLaws.{tracedFrom, begins, ends, writes-next, walk-no-caller, walk-outermost, walk-on, walk-full}
 
 -- a caller goes on as it is
-pub unmarked-same : (caller : Registers) → caller .first ≡ 0 → withoutMark caller ≡ caller
-unfolding withoutMark
-unmarked-same caller none =
-    ap (λ n. record { pc = caller .pc; sp = caller .sp; fp = caller .fp; lr = caller .lr; first = n }) (sym none)
+pub next-same : (caller last : Registers) → caller .first ≡ 0 → caller .lr ≡ last .lr → nextFrom caller last ≡ caller
+unfolding nextFrom
+next-same caller last none kept = same (last .lr) 0 kept none
+  where
+    same : (lr first : ℕ) → caller .lr ≡ lr → caller .first ≡ first
+        → _≡_ {A = Registers} (record { pc = caller .pc; sp = caller .sp; fp = caller .fp; lr = lr; first = first }) caller
+    same lr first p q = rw (← p, ← q)
 
 -- `frames` frames are written to b, and `left` more are allowed from the registers `current` on
 pub record Going (step : Registers → Step) (limit : ℕ) (start : Registers) (old b : List ℕ) (current : Registers) (frames left : ℕ) : Type 0 where

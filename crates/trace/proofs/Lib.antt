@@ -6,5 +6,6 @@ pub mod Exactly
 mod Examples
 pub mod GoingLaws
 pub mod NumberLaws
+pub mod Signed
 pub mod TraceLaws
 pub mod WalkLaws

@@ -11,7 +11,7 @@ use Rattle.accept.specs.Rules.{Obeys}
 use Rattle.caller.specs.Cases.{Rule41, OnRefusal, CallerCase}
 use Rattle.caller.specs.Numbers.{Refusal, numberOfRefusal}
 use Rattle.caller.specs.declared.registers.Registers.{Registers}
-use Rattle.caller.specs.declared.registers.Where.{Where}
+use Rattle.caller.specs.declared.registers.Process.{Process}
 use Rattle.trace.specs.Frames.{inForce, frameOf, withMark}
 use Rattle.trace.specs.Numbers.{TraceCause, window, limitAbove, tooFewWords, unsound, refused, outermost, full, numberOfTraceCause}
 use Rattle.trace.specs.declared.answer.Ending.{Ending}
@@ -31,15 +31,15 @@ abbrev pub TooFewWords : ℕ → List ℕ → Type 0
 TooFewWords limit buffer = length buffer < 3 * inForce limit
 
 -- a number is given at the door where its rule holds and no earlier one does
-abbrev pub AtDoor : List ℕ → Where → ℕ → List ℕ → ℕ → Type 0
-AtDoor stack lies limit buffer number =
-    ((number ≡ numberOfTraceCause window) × Rule41 stack lies)
-    ⊎ (((number ≡ numberOfTraceCause limitAbove) × (¬ Rule41 stack lies) × LimitAbove limit)
-    ⊎ ((number ≡ numberOfTraceCause tooFewWords) × (¬ Rule41 stack lies) × (¬ LimitAbove limit) × TooFewWords limit buffer))
+abbrev pub AtDoor : List ℕ → Process → ℕ → List ℕ → ℕ → Type 0
+AtDoor stack process limit buffer number =
+    ((number ≡ numberOfTraceCause window) × Rule41 stack process)
+    ⊎ (((number ≡ numberOfTraceCause limitAbove) × (¬ Rule41 stack process) × LimitAbove limit)
+    ⊎ ((number ≡ numberOfTraceCause tooFewWords) × (¬ Rule41 stack process) × (¬ LimitAbove limit) × TooFewWords limit buffer))
 
 -- none of the three
-pub record DoorOpen (stack : List ℕ) (lies : Where) (limit : ℕ) (buffer : List ℕ) : Type 0 where
-  pub in-memory : ¬ Rule41 stack lies
+pub record DoorOpen (stack : List ℕ) (process : Process) (limit : ℕ) (buffer : List ℕ) : Type 0 where
+  pub in-memory : ¬ Rule41 stack process
   pub allowed : ¬ LimitAbove limit
   pub room : ¬ TooFewWords limit buffer
 
@@ -92,31 +92,31 @@ WalkCase Yields Refuses limit start frames ending = WalkTo Yields start frames (
 
 -- ---- the walk of a trace
 
-module _ (s stack : List ℕ) (lies : Where) where
+module _ (s stack : List ℕ) (process : Process) where
   -- a step is refused with its own number
   abbrev pub StepRefuses : Registers → ℕ → Type 0
-  StepRefuses registers number = (refusal : Refusal) × (number ≡ numberOfRefusal refusal) × OnRefusal s stack lies registers refusal
+  StepRefuses registers number = (refusal : Refusal) × (number ≡ numberOfRefusal refusal) × OnRefusal s stack process registers refusal
 
-module _ (s stack : List ℕ) (lies : Where) (registers : Registers) (limit : ℕ) (buffer : List ℕ) where
+module _ (s stack : List ℕ) (process : Process) (registers : Registers) (limit : ℕ) (buffer : List ℕ) where
   -- nothing is refused before the walk, "The walk starts with the mark set", its frames are these, and it ends so
   pub record WalkMade (frames : List Frame) (Holds : ℕ → Registers → Type 0) : Type 0 where
-    pub opened : DoorOpen stack lies limit buffer
+    pub opened : DoorOpen stack process limit buffer
     pub obeys : Obeys s
-    pub walk : WalkTo (CallerCase s stack lies) (withMark registers) frames Holds
+    pub walk : WalkTo (CallerCase s stack process) (withMark registers) frames Holds
 
   -- ---- every number
 
   -- what holds where a trace gives the number of this cause
   abbrev pub OnTrace : TraceCause → Type 0
   -- "41 stack address plus length above 2^64; 42 limit above 256; 43 fewer than 3 words per limit frame"
-  OnTrace window = Rule41 stack lies
-  OnTrace limitAbove = (¬ Rule41 stack lies) × LimitAbove limit
-  OnTrace tooFewWords = (¬ Rule41 stack lies) × (¬ LimitAbove limit) × TooFewWords limit buffer
+  OnTrace window = Rule41 stack process
+  OnTrace limitAbove = (¬ Rule41 stack process) × LimitAbove limit
+  OnTrace tooFewWords = (¬ Rule41 stack process) × (¬ LimitAbove limit) × TooFewWords limit buffer
   -- "then 1 to 15"
-  OnTrace (unsound rule) = DoorOpen stack lies limit buffer × BrokenFirst s rule
+  OnTrace (unsound rule) = DoorOpen stack process limit buffer × BrokenFirst s rule
   -- "A refused step ends it with its own number, 21 to 28."
   OnTrace (refused refusal) =
-      (frames : List Frame) × WalkMade frames (EndsRefused (λ last. OnRefusal s stack lies last refusal) (inForce limit))
+      (frames : List Frame) × WalkMade frames (EndsRefused (λ last. OnRefusal s stack process last refusal) (inForce limit))
   -- "RA 0 ends it with 30 (outermost), also in the last allowed frame"
   OnTrace outermost = (frames : List Frame) × WalkMade frames (EndsOutermost (inForce limit))
   -- "otherwise a full limit ends it with 31."
@@ -126,7 +126,7 @@ module _ (s stack : List ℕ) (lies : Where) (registers : Registers) (limit : �
 
   -- a walk with this ending
   abbrev pub WalkEnded : List Frame → Ending → Type 0
-  WalkEnded frames ending = WalkMade frames (λ count last. Ends (StepRefuses s stack lies) (inForce limit) count last ending)
+  WalkEnded frames ending = WalkMade frames (λ count last. Ends (StepRefuses s stack process) (inForce limit) count last ending)
 
   -- what holds where a trace has these frames and this ending; "These write nothing and answer 0 frames with their number, and for 1
   -- to 15 the entry's index.": the door, and "then 1 to 15"
@@ -134,6 +134,6 @@ module _ (s stack : List ℕ) (lies : Where) (registers : Registers) (limit : �
   Case frames Outermost = WalkEnded frames Outermost
   Case frames Full = WalkEnded frames Full
   Case frames (Refused number) = WalkEnded frames (Refused number)
-  Case frames (Shut number) = (frames ≡ []) × AtDoor stack lies limit buffer number
+  Case frames (Shut number) = (frames ≡ []) × AtDoor stack process limit buffer number
   Case frames (Unsound number index) =
-      (frames ≡ []) × DoorOpen stack lies limit buffer × (rule : Rule) × (number ≡ numberOfRule rule) × accept.Given s rule index
+      (frames ≡ []) × DoorOpen stack process limit buffer × (rule : Rule) × (number ≡ numberOfRule rule) × accept.Given s rule index

@@ -7,9 +7,9 @@ use crate::answer::write_frame;
 use accept::section_check::check;
 use accept::verdict::Fault;
 use accept::verdict::Verdict;
+use caller::registers::Process;
 use caller::registers::Registers;
 use caller::registers::Step;
-use caller::registers::Where;
 use numbers::address::window_fits;
 use section::header::Layout;
 use section::header::layout_at;
@@ -17,7 +17,7 @@ ghost use mathlib.Core.Path.{_≡_};
 ghost use Prim.Native.Nat.{_*_, _≤_};
 ghost use lib.ListN.{length};
 ghost use Rattle.lookup.specs.inner.Requires.{AcceptedOf};
-ghost use Rattle.trace.specs.inner.Writing.{withoutMark};
+ghost use Rattle.trace.specs.inner.Writing.{nextFrom};
 ghost use Rattle.trace.specs.Frames.{inForce, withMark, tracedAs};
 ghost use Rattle.trace.specs.computed.Trace.{doorFault, checkedWalk, traced, traceOf};
 
@@ -47,25 +47,25 @@ fn with_mark(registers: Registers) -> Registers
     }
 }
 
-// A caller as it is, since it has no mark. Written anew, the mark does not wait for the step's own stores, as it would where it is
-// copied together with LR (docs/BENCHMARKS.md).
-fn without_mark(registers: Registers) -> Registers
-    ensures { λ r. ⌜ r ≡ withoutMark registers ⌝ }
+// A caller as it is, since it has no mark and LR as it was. Neither is copied from it: together with FP or with each other they would
+// wait for the step's own stores (docs/BENCHMARKS.md).
+fn next_from(caller: Registers, last: Registers) -> Registers
+    ensures { λ r. ⌜ r ≡ nextFrom caller last ⌝ }
 {
     Registers {
-        pc: registers.pc,
-        sp: registers.sp,
-        fp: registers.fp,
-        lr: registers.lr,
+        pc: caller.pc,
+        sp: caller.sp,
+        fp: caller.fp,
+        lr: last.lr,
         first: 0,
     }
 }
 
 // 41, 42, 43: what is tried before anything else.
-fn door_fault(stack: &[u8], lies: Where, limit: u64, words: u64) -> Fault
-    ensures { λ r. ⌜ r ≡ doorFault (now (stack .entry)) lies limit words ⌝ }
+fn door_fault(stack: &[u8], process: Process, limit: u64, words: u64) -> Fault
+    ensures { λ r. ⌜ r ≡ doorFault (now (stack .entry)) process limit words ⌝ }
 {
-    if !window_fits(stack, lies.stack) {
+    if !window_fits(stack, process.stack) {
         return Fault::Breaks(41);
     }
     if MOST < limit {
@@ -82,19 +82,19 @@ fn walk(
     section: &[u8],
     layout: Layout,
     stack: &[u8],
-    lies: Where,
+    process: Process,
     registers: Registers,
     limit: u64,
     buffer: &mut [u64],
 ) -> Traced
     requires { ⌜ AcceptedOf (now section) layout × (limit ≤ 256) × (3 * limit ≤ length (now buffer)) ⌝ }
-    ensures { λ r. ⌜ tracedAs r (now (buffer .exit)) ≡ traced (checkedWalk (now (section .entry)) (now (stack .entry)) lies limit registers) (now (buffer .entry)) ⌝ }
+    ensures { λ r. ⌜ tracedAs r (now (buffer .exit)) ≡ traced (checkedWalk (now (section .entry)) (now (stack .entry)) process limit registers) (now (buffer .entry)) ⌝ }
 {
     let mut current = registers;
     let mut frames = 0;
     let mut left: u64 = limit;
     while 0 < left {
-        let step = current.step_checked(section, layout, stack, lies);
+        let step = current.step_checked(section, layout, stack, process);
         let Step::Caller(caller) = step else {
             return Traced {
                 ending: Ending::Refused(number_of(step)),
@@ -109,7 +109,7 @@ fn walk(
                 frames: frames,
             };
         }
-        current = without_mark(caller);
+        current = next_from(caller, current);
         left = left - 1;
     }
     Traced {
@@ -122,14 +122,14 @@ fn walk(
 pub fn trace(
     section: &[u8],
     stack: &[u8],
-    lies: Where,
+    process: Process,
     registers: Registers,
     limit: u64,
     buffer: &mut [u64],
 ) -> Traced
-    ensures { λ r. ⌜ tracedAs r (now (buffer .exit)) ≡ traceOf (now (section .entry)) (now (stack .entry)) lies registers limit (now (buffer .entry)) ⌝ }
+    ensures { λ r. ⌜ tracedAs r (now (buffer .exit)) ≡ traceOf (now (section .entry)) (now (stack .entry)) process registers limit (now (buffer .entry)) ⌝ }
 {
-    match door_fault(stack, lies, limit, buffer.len() as u64) {
+    match door_fault(stack, process, limit, buffer.len() as u64) {
         Fault::Breaks(number) => Traced {
             ending: Ending::Shut(number),
             frames: 0,
@@ -146,7 +146,7 @@ pub fn trace(
                 section,
                 layout_at(section),
                 stack,
-                lies,
+                process,
                 with_mark(registers),
                 in_force(limit),
                 buffer,

@@ -4,7 +4,7 @@ use super::questions::{disputed, found, no_function, section_refused, Question};
 use super::walks::{in_lr, pc_in, Expected, Ground};
 use super::{case, refused, Case, ACCEPTED};
 use crate::maker::Machine;
-use crate::reader::{Answer, Base, Ending, Place, Registers, Row, Step, Where};
+use crate::reader::{Answer, Base, Ending, Place, Process, Registers, Row, Step};
 use crate::walk::Walk;
 
 /// Section S of document 01.
@@ -47,8 +47,8 @@ fn k10_to_k12() -> Vec<Expected> {
         let mut stack = vec![0; bytes];
         stack[..3].copy_from_slice(&[0x08, 0x10, 0x40]);
         let registers = Registers { pc: 0x40_1044, sp: 0x7000, fp: 0x7030, lr: 0, first: 1 };
-        let lies = Where { section: ADDRESS, stack: 0x7000 };
-        Walk { lies, registers, stack, limit, words: 3 * limit as usize }
+        let process = Process { section: ADDRESS, stack: 0x7000, mask: 0 };
+        Walk { process, registers, stack, limit, words: 3 * limit as usize }
     };
     let caller = Step::Caller(Registers { pc: 0x40_1008, sp: 0x7008, fp: 0x7030, lr: 0, first: 0 });
     let frames = [[0x7008, 0x40_1008, 0x7030], [0x7040, 0, 0]];
@@ -67,7 +67,7 @@ fn examples(machine: Machine) -> Case {
     let walk = |pc, lr, first| {
         let registers = Registers { pc, sp: 0x7000, fp: 0x7030, lr, first };
         Walk {
-            lies: Where { section: crate::ADDRESS, stack: 0x7000 },
+            process: Process { section: crate::ADDRESS, stack: 0x7000, mask: 0 },
             registers,
             stack: vec![0; 32],
             limit: 3,

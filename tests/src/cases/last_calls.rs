@@ -4,7 +4,7 @@
 use super::walks::{at, from_sp, in_lr, later, shared_out, Expected, Ground};
 use super::{refused, Case, ACCEPTED, S};
 use crate::maker::{Function, Machine, Row, Section, SORTED};
-use crate::reader::{Ending, Registers, Step, Where};
+use crate::reader::{Ending, Process, Registers, Step};
 use crate::walk::Walk;
 use crate::ADDRESS;
 
@@ -146,8 +146,8 @@ fn of_s() -> Vec<Case> {
 fn in_refused() -> Vec<Case> {
     let case = |name: &str, section: Vec<u8>, number, index| {
         let registers = Registers { pc: 0, sp: 0x7000, fp: 0x7000, lr: 0, first: 0 };
-        let lies = Where { section: LOADED, stack: 0x7000 };
-        let walk = Walk { lies, registers, stack: vec![0; 8], limit: 1, words: 3 };
+        let process = Process { section: LOADED, stack: 0x7000, mask: 0 };
+        let walk = Walk { process, registers, stack: vec![0; 8], limit: 1, words: 3 };
         let step = Step::Unsound { old: registers, number, index };
         let walked = walk.stated(step, &[], Ending::Unsound { number, index });
         Case::new(name, section, refused(number, index)).walked(vec![(walk, walked)])
@@ -179,9 +179,9 @@ impl Stated {
         stack[..8].copy_from_slice(&0x7038_u64.to_le_bytes());
         stack[8..16].copy_from_slice(&0x40_1044_u64.to_le_bytes());
         let registers = Registers { pc: self.pc, sp: 0x7000, fp: 0x7000, lr: 0, first: self.first };
-        let lies = Where { section: self.section, stack: 0x7000 };
+        let process = Process { section: self.section, stack: 0x7000, mask: 0 };
         let limit = if self.first == 0 { 257 } else { 1 };
-        let walk = Walk { lies, registers, stack, limit, words: 3 };
+        let walk = Walk { process, registers, stack, limit, words: 3 };
         let step = match self.caller {
             Ok([sp, pc, fp]) => Step::Caller(Registers { pc, sp, fp, lr: 0, first: 0 }),
             Err(number) => Step::Refused { old: registers, number },

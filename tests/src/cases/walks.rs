@@ -6,7 +6,7 @@
 use super::{case, Case, ACCEPTED};
 use crate::maker::{Function, Machine, Row, Section, SORTED};
 use crate::obvious::Meaning;
-use crate::reader::{Registers, Where};
+use crate::reader::{Process, Registers};
 use crate::walk::{Walk, Walked};
 use crate::ADDRESS;
 
@@ -59,17 +59,18 @@ impl Ground {
     }
 
     pub fn walk_with(&self, registers: Registers, stack: Stack, limit: u64, words: usize) -> Expected {
-        let lies = Where { section: ADDRESS, stack: stack.0 };
-        self.defined(Walk { lies, registers, stack: stack.1, limit, words })
+        let process = Process { section: ADDRESS, stack: stack.0, mask: 0 };
+        self.defined(Walk { process, registers, stack: stack.1, limit, words })
     }
 
     /// The same as `walk`, with the section at another address.
     pub fn walk_from(&self, section: u64, registers: Registers, stack: Stack) -> Expected {
-        let lies = Where { section, stack: stack.0 };
-        self.defined(Walk { lies, registers, stack: stack.1, limit: 4, words: 12 })
+        let process = Process { section, stack: stack.0, mask: 0 };
+        self.defined(Walk { process, registers, stack: stack.1, limit: 4, words: 12 })
     }
 
-    fn defined(&self, walk: Walk) -> Expected {
+    /// A walk and what it comes to by the definition.
+    pub fn defined(&self, walk: Walk) -> Expected {
         let walked = walk.by_definition(&self.meaning);
         (walk, walked)
     }
@@ -144,8 +145,8 @@ pub fn later(registers: Registers) -> Registers {
 pub fn in_refused(number: u64, index: u64, all: bool) -> Vec<Expected> {
     let meaning = Meaning::refused(number, index);
     let walk = |registers, stack, length, limit, words| {
-        let lies = Where { section: ADDRESS, stack };
-        let walk = Walk { lies, registers, stack: vec![0; length], limit, words };
+        let process = Process { section: ADDRESS, stack, mask: 0 };
+        let walk = Walk { process, registers, stack: vec![0; length], limit, words };
         let walked = walk.by_definition(&meaning);
         (walk, walked)
     };

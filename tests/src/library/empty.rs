@@ -1,6 +1,6 @@
 //! Seven calls of the library's form that do nothing: what they use of a stack, the form itself uses.
 
-use super::{Answer, Calls, Function, Registers, Row, Rows, Step, Traced, Verdict, Where};
+use super::{Answer, Calls, Function, Process, Registers, Row, Rows, Step, Traced, Verdict};
 
 pub const EMPTY: Calls = Calls { check, function_at, rows_of, next_row, lookup, caller, trace };
 
@@ -24,7 +24,7 @@ extern "C" fn lookup(_: *const u8, _: usize, _: u64, _: u64) -> Answer {
     Answer::default()
 }
 
-extern "C" fn caller(_: *const u8, _: usize, _: *const u8, _: usize, _: Where, registers: Registers) -> Step {
+extern "C" fn caller(_: *const u8, _: usize, _: *const u8, _: usize, _: Process, registers: Registers) -> Step {
     Step { registers, number: 0, index: 0 }
 }
 
@@ -34,7 +34,7 @@ extern "C" fn trace(
     _: usize,
     _: *const u8,
     _: usize,
-    _: Where,
+    _: Process,
     _: Registers,
     _: u64,
     _: *mut u64,

@@ -4,7 +4,7 @@
 
 use super::{answer, described};
 use crate::maker::{self, SORTED};
-use crate::reader::{self, Base, Ending, Function, Outcome, Place, Registers, Row, Step, Traced, Verdict, Where};
+use crate::reader::{self, Base, Ending, Function, Outcome, Place, Process, Registers, Row, Step, Traced, Verdict};
 
 const TWO_64: i128 = 1 << 64;
 
@@ -49,38 +49,34 @@ impl Meaning {
     }
 }
 
-/// One step, by document 01's "One caller" and request 03.
-pub fn step(meaning: &Meaning, stack: &[u8], lies: Where, registers: Registers) -> Step {
+/// One step, by document 01's "One caller" and requests 03 and 04.
+pub fn step(meaning: &Meaning, stack: &[u8], process: Process, registers: Registers) -> Step {
     let old = registers;
-    if is_past_the_end(stack, lies) {
+    if is_past_the_end(stack, process) {
         return Step::Refused { old, number: 41 };
     }
     if let Verdict::Refused { number, index } = meaning.verdict {
         return Step::Unsound { old, number, index };
     }
-    match caller(meaning, stack, lies, registers) {
+    match caller(meaning, stack, process, registers) {
         Ok(caller) => Step::Caller(caller),
         Err(number) => Step::Refused { old, number },
     }
 }
 
 // "41: stack address plus length above 2^64."
-fn is_past_the_end(stack: &[u8], lies: Where) -> bool {
-    i128::from(lies.stack) + stack.len() as i128 > TWO_64
+fn is_past_the_end(stack: &[u8], process: Process) -> bool {
+    i128::from(process.stack) + stack.len() as i128 > TWO_64
 }
 
-fn caller(meaning: &Meaning, stack: &[u8], lies: Where, registers: Registers) -> Result<Registers, u64> {
-    let Registers { pc, sp, fp, lr, first } = registers;
+fn caller(meaning: &Meaning, stack: &[u8], process: Process, registers: Registers) -> Result<Registers, u64> {
+    let Registers { sp, fp, lr, first, .. } = registers;
     let has_mark = first != 0;
-    // "without the first-frame mark, look up PC minus 1; with it, PC itself. .. PC 0 without the mark is answered 21 ..
-    // with no lookup made". Then "21, 22, 23."
-    let row = match (has_mark, pc) {
-        (true, _) => row_for(meaning, lies.section, pc)?,
-        (false, 0) => return Err(21),
-        (false, _) => row_for(meaning, lies.section, pc - 1)?,
-    };
-    // "24: AArch64 and the row's signed bit is set." The bit is never set in the meaning of an AMD64 row.
-    if row.signed {
+    // "21, 22, 23."
+    let row = row_asked(meaning, process.section, registers)?;
+    // "24: AArch64 and the row's signed bit is set", and this "now comes only when the mask is 0, in its old place".
+    // The bit is never set in the meaning of an AMD64 row.
+    if row.signed && process.mask == 0 {
         return Err(24);
     }
     // "CFA is base plus first offset. 25 when outside 0 to 2^64 - 1."
@@ -98,7 +94,7 @@ fn caller(meaning: &Meaning, stack: &[u8], lies: Where, registers: Registers) ->
         return Err(27);
     }
     // "28: a needed word (RA first) is not wholly inside the stack window."
-    let word = |offset: i64| word_at(meaning.big, stack, lies, cfa + i128::from(offset)).ok_or(28_u64);
+    let word = |offset: i64| word_at(meaning.big, stack, process, cfa + i128::from(offset)).ok_or(28_u64);
     let ra = match row.ra {
         Place::Register => lr,
         Place::AtOffset(offset) => word(offset)?,
@@ -107,8 +103,28 @@ fn caller(meaning: &Meaning, stack: &[u8], lies: Where, registers: Registers) ->
         Place::Register => fp,
         Place::AtOffset(offset) => word(offset)?,
     };
+    // "On AArch64, a row with the signed bit has the mask's bits cleared from RA, wherever RA came from; rows without
+    // it leave RA as read."
+    let ra = if row.signed { cleared(ra, process.mask) } else { ra };
     // "The caller has PC = RA, SP = CFA, the new FP, LR unchanged and no mark."
     Ok(Registers { pc: ra, sp: cfa as u64, fp: new_fp, lr, first: 0 })
+}
+
+// The bits that a word has and a mask has not, one after the other.
+fn cleared(word: u64, mask: u64) -> u64 {
+    let has = |bits: u64, number: u32| bits / 2_u64.pow(number) % 2 == 1;
+    let kept = (0..64).filter(|&number| has(word, number) && !has(mask, number));
+    kept.map(|number| 2_u64.pow(number)).sum()
+}
+
+// "without the first-frame mark, look up PC minus 1; with it, PC itself. .. PC 0 without the mark is answered 21 ..
+// with no lookup made".
+fn row_asked(meaning: &Meaning, address: u64, registers: Registers) -> Result<Row, u64> {
+    match (registers.first, registers.pc) {
+        (0, 0) => Err(21),
+        (0, pc) => row_for(meaning, address, pc - 1),
+        (_, pc) => row_for(meaning, address, pc),
+    }
 }
 
 fn row_for(meaning: &Meaning, address: u64, pc: u64) -> Result<Row, u64> {
@@ -122,9 +138,9 @@ fn row_for(meaning: &Meaning, address: u64, pc: u64) -> Result<Row, u64> {
 }
 
 // "Words are 8 bytes in the section's byte order"; none where one of them is not a byte of the window.
-fn word_at(big: bool, stack: &[u8], lies: Where, address: i128) -> Option<u64> {
+fn word_at(big: bool, stack: &[u8], process: Process, address: i128) -> Option<u64> {
     let byte = |number: i128| {
-        let place = address + number - i128::from(lies.stack);
+        let place = address + number - i128::from(process.stack);
         let inside = 0 <= place && place < stack.len() as i128;
         inside.then(|| u64::from(stack[place as usize]))
     };
@@ -136,7 +152,7 @@ fn word_at(big: bool, stack: &[u8], lies: Where, address: i128) -> Option<u64> {
 pub fn trace(
     meaning: &Meaning,
     stack: &[u8],
-    lies: Where,
+    process: Process,
     registers: Registers,
     limit: u64,
     buffer: &mut [u64],
@@ -145,7 +161,7 @@ pub fn trace(
     // "Limit 0 means 64; otherwise 1 to 256."
     let in_force = if limit == 0 { 64 } else { i128::from(limit) };
     // "Before anything else, in order: 41 .., 42 .., 43 ..; then 1 to 15."
-    if is_past_the_end(stack, lies) {
+    if is_past_the_end(stack, process) {
         return nothing(Ending::Refused(41));
     }
     if in_force > 256 {
@@ -158,23 +174,30 @@ pub fn trace(
         return nothing(Ending::Unsound { number, index });
     }
     // "The walk starts with the mark set and writes each frame that a step yields."
-    let (callers, ending) = callers(meaning, stack, lies, Registers { first: 1, ..registers }, in_force as usize);
+    let (callers, ending) = callers(meaning, stack, process, Registers { first: 1, ..registers }, in_force as usize);
     let words = callers.iter().flat_map(|caller| [caller.sp, caller.pc, caller.fp]);
     buffer.iter_mut().zip(words).for_each(|(word, new)| *word = new);
     Traced { frames: callers.len() as u64, ending }
 }
 
 // The registers of every frame, each worked out from the last, and what ends them.
-fn callers(meaning: &Meaning, stack: &[u8], lies: Where, first: Registers, limit: usize) -> (Vec<Registers>, Ending) {
+fn callers(
+    meaning: &Meaning,
+    stack: &[u8],
+    process: Process,
+    first: Registers,
+    limit: usize,
+) -> (Vec<Registers>, Ending) {
     let mut callers = Vec::new();
     loop {
         let last = callers.last().copied().unwrap_or(first);
-        match step(meaning, stack, lies, last) {
+        match step(meaning, stack, process, last) {
             Step::Caller(caller) => callers.push(caller),
             // "A refused step ends it with its own number, 21 to 28."
             refused => return (callers, Ending::Refused(refused.number())),
         }
         // "RA 0 ends it with 30 (outermost), also in the last allowed frame; otherwise a full limit ends it with 31."
+        // By request 04 this "uses the cleared RA", which is the caller's PC.
         if callers[callers.len() - 1].pc == 0 {
             return (callers, Ending::Outermost);
         }

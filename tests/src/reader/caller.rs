@@ -1,5 +1,5 @@
 //! One caller: the registers of the function that called, as document 01 has it under "One caller", with the rule of
-//! request 03 for the PC that is looked up.
+//! request 03 for the PC that is looked up and that of request 04 for signed return addresses.
 //!
 //! A window is opened once, by rule 41, and after that every sum that could leave it is caught where it is made.
 #![forbid(unsafe_code)]
@@ -27,11 +27,15 @@ impl Registers {
     }
 }
 
-/// Where the section and the first byte of the stack window lie, by their addresses.
+/// What is known of the crashed process beside its registers.
 #[derive(Clone, Copy, Debug, Default, PartialEq, Eq)]
-pub struct Where {
+pub struct Process {
+    /// The address of the section.
     pub section: u64,
+    /// The address of the stack window's first byte.
     pub stack: u64,
+    /// The bits in which a signed return address has its signature; 0 where they are not known.
+    pub mask: u64,
 }
 
 /// What a step comes to.
@@ -62,27 +66,27 @@ impl Step {
 }
 
 /// The caller's registers, or the old ones with the first refusal in document 01's order.
-pub fn step(section: &[u8], stack: &[u8], lies: Where, registers: Registers) -> Step {
-    let Some(window) = Window::open(stack, lies.stack) else {
+pub fn step(section: &[u8], stack: &[u8], process: Process, registers: Registers) -> Step {
+    let Some(window) = Window::open(stack, process.stack) else {
         return Step::Refused { old: registers, number: 41 };
     };
     match Checked::open(section) {
-        Ok(checked) => checked.step_in(&window, lies.section, registers),
+        Ok(checked) => checked.step_in(&window, &process, registers),
         Err(Refusal { number, index }) => Step::Unsound { old: registers, number, index },
     }
 }
 
 impl Checked<'_> {
     /// A step in a section that was checked once.
-    pub fn step(&self, stack: &[u8], lies: Where, registers: Registers) -> Step {
-        match Window::open(stack, lies.stack) {
-            Some(window) => self.step_in(&window, lies.section, registers),
+    pub fn step(&self, stack: &[u8], process: Process, registers: Registers) -> Step {
+        match Window::open(stack, process.stack) {
+            Some(window) => self.step_in(&window, &process, registers),
             None => Step::Refused { old: registers, number: 41 },
         }
     }
 
-    fn step_in(&self, window: &Window, address: u64, registers: Registers) -> Step {
-        match self.caller(window, address, &registers) {
+    fn step_in(&self, window: &Window, process: &Process, registers: Registers) -> Step {
+        match self.caller(window, process, &registers) {
             Ok(caller) => Step::Caller(caller),
             Err(number) => Step::Refused { old: registers, number },
         }
@@ -90,10 +94,10 @@ impl Checked<'_> {
 
     // Rules 21 to 28. The stack is read behind all of them but the last.
     #[inline]
-    pub(super) fn caller(&self, window: &Window, address: u64, registers: &Registers) -> Result<Registers, u64> {
-        let row = self.row_at(address, registers.looked_up().ok_or(21_u64)?)?;
+    pub(super) fn caller(&self, window: &Window, process: &Process, registers: &Registers) -> Result<Registers, u64> {
+        let row = self.row_at(process.section, registers.looked_up().ok_or(21_u64)?)?;
         let marked = registers.first != 0;
-        rule(24, row.signed)?;
+        rule(24, row.signed && process.mask == 0)?;
         let base = match row.base {
             Base::Fp => registers.fp,
             Base::Sp => registers.sp,
@@ -104,7 +108,9 @@ impl Checked<'_> {
         let order = self.order();
         let ra = window.saved(order, row.ra, cfa, registers.lr).ok_or(28_u64)?;
         let fp = window.saved(order, row.fp, cfa, registers.fp).ok_or(28_u64)?;
-        Ok(Registers { pc: ra, sp: cfa, fp, lr: registers.lr, first: 0 })
+        // A row of AMD64 is never signed.
+        let signature = if row.signed { process.mask } else { 0 };
+        Ok(Registers { pc: ra & !signature, sp: cfa, fp, lr: registers.lr, first: 0 })
     }
 
     fn row_at(&self, address: u64, pc: u64) -> Result<Row, u64> {

@@ -1,7 +1,8 @@
-//! A trace: the frames of a whole walk, as document 01 has it under "A trace". The section is checked once.
+//! A trace: the frames of a whole walk, as document 01 has it under "A trace". The section is checked once. By request
+//! 04 a signed RA is cleared before it is written and before it is held against 0.
 #![forbid(unsafe_code)]
 
-use super::caller::{Registers, Where, Window};
+use super::caller::{Process, Registers, Window};
 use super::lookup::Checked;
 use super::Refusal;
 
@@ -14,7 +15,7 @@ type Frame = [u64; 3];
 /// Why a trace has no more frames.
 #[derive(Clone, Copy, Debug, PartialEq, Eq)]
 pub enum Ending {
-    /// 30: RA was 0.
+    /// 30: RA was 0, cleared where it was signed.
     Outermost,
     /// 31: as many frames as the limit allows.
     Full,
@@ -53,31 +54,31 @@ impl Traced {
 pub fn trace(
     section: &[u8],
     stack: &[u8],
-    lies: Where,
+    process: Process,
     registers: Registers,
     limit: u64,
     buffer: &mut [u64],
 ) -> Traced {
     let refused = |number| Traced::nothing(Ending::Refused(number));
-    let Some(window) = Window::open(stack, lies.stack) else { return refused(41) };
+    let Some(window) = Window::open(stack, process.stack) else { return refused(41) };
     if limit > MOST_FRAMES {
         return refused(42);
     }
     let limit = if limit == 0 { USUAL_FRAMES } else { limit };
     let Some(frames) = buffer.as_chunks_mut().0.get_mut(..limit as usize) else { return refused(43) };
     match Checked::open(section) {
-        Ok(checked) => checked.walk(&window, lies.section, registers, frames),
+        Ok(checked) => checked.walk(&window, &process, registers, frames),
         Err(Refusal { number, index }) => Traced::nothing(Ending::Unsound { number, index }),
     }
 }
 
 impl Checked<'_> {
     // As many frames as there is room for, unless something else ends the walk.
-    fn walk(&self, window: &Window, address: u64, registers: Registers, room: &mut [Frame]) -> Traced {
+    fn walk(&self, window: &Window, process: &Process, registers: Registers, room: &mut [Frame]) -> Traced {
         // The mark is set whatever was handed in.
         let mut registers = Registers { first: 1, ..registers };
         for (frames, frame) in (0..).zip(room.iter_mut()) {
-            registers = match self.caller(window, address, &registers) {
+            registers = match self.caller(window, process, &registers) {
                 Ok(caller) => caller,
                 Err(number) => return Traced { frames, ending: Ending::Refused(number) },
             };

@@ -1,10 +1,11 @@
 //! Walks to be made in a section of the stream: stacks full of PCs, of stack addresses and of 0, so that many of them
-//! go several frames deep; registers, windows, limits and buffers at their edges.
+//! go several frames deep, through signed rows too; registers, windows, masks, limits and buffers at their edges.
 #![forbid(unsafe_code)]
 
 use super::{damaged, sound, Random};
+use crate::cases::signed::USUAL;
 use crate::maker::{Machine, Row, Section, SORTED};
-use crate::reader::{functions, Base, Checked, Function, Outcome, Place, Registers, Where};
+use crate::reader::{functions, Base, Checked, Function, Outcome, Place, Process, Registers};
 use crate::walk::Walk;
 use crate::ADDRESS;
 
@@ -41,18 +42,23 @@ fn machine_of(section: &Section) -> Machine {
     }
 }
 
-// Frames of 0 to 48 bytes, the words in them saved near CFA, and seldom from FP.
+// Frames of 0 to 48 bytes, the words in them saved near CFA, a third of them where a compiler saves them, and seldom
+// from FP.
 fn short_row(random: &mut Random, machine: Machine, start: u32) -> Row {
     let saved = [-8, -16, -8, -16, -8, -16, -8, -16, -24, -24, 0, 8, -1];
     let cfa = random.pick(&[8, 8, 8, 8, 16, 16, 16, 16, 16, 24, 32, 32, 48, 48, 0, -8, 1]);
-    let offsets = [cfa, random.pick(&saved), random.pick(&saved)];
+    let offsets = match (random.once_in(3), machine) {
+        (false, _) => [cfa, random.pick(&saved), random.pick(&saved)],
+        (true, Machine::Amd64) => [random.pick(&[16, 32]), -16, 0],
+        (true, _) => [random.pick(&[16, 32]), -8, -16],
+    };
     let count = match machine {
         Machine::Amd64 => 1 + random.index(2),
         _ => random.pick(&[1, 2, 2, 3, 3]),
     };
     let mut row = Row::new(start, random.below(3) as u8, &offsets[..count]);
     row.sp_base = !random.once_in(4);
-    row.signed = random.once_in(16);
+    row.signed = random.once_in(2);
     row
 }
 
@@ -75,57 +81,99 @@ pub fn walks(random: &mut Random, section: &[u8]) -> Vec<Walk> {
 
 // Frames that lead from one function to the next, as far as the window goes or something else ends them.
 fn lay_frames(random: &mut Random, checked: &Checked, functions: &[Function], big: bool, walk: &mut Walk) {
+    let Process { section, mask, .. } = walk.process;
+    if !random.once_in(3) {
+        walk.registers.pc = leading_on(random, checked, functions, section).wrapping_sub(1);
+    }
     let (mut sp, mut fp, mut looked_up) = (walk.registers.sp, walk.registers.fp, walk.registers.pc);
-    for _ in 0..random.below(24) {
-        let Outcome::Found { row, .. } = checked.find(walk.lies.section, looked_up).outcome else { return };
+    for frame in 0..random.below(24) {
+        let Outcome::Found { row, .. } = checked.find(section, looked_up).outcome else { return };
         let base = if row.base == Base::Sp { sp } else { fp };
         sp = base.wrapping_add_signed(row.cfa_offset);
-        let ra = match row.ra {
-            Place::Register => walk.registers.lr,
-            Place::AtOffset(offset) => {
-                let next = if random.once_in(16) { 0 } else { return_address(random, functions, walk.lies.section) };
-                put(walk, big, sp.wrapping_add_signed(offset), next)
-            }
-        };
-        looked_up = ra.wrapping_sub(1);
+        let next = if random.once_in(16) { 0 } else { leading_on(random, checked, functions, section) };
+        // Now and then an RA is signed that should not be, or is not that should.
+        let ra = if row.signed != random.once_in(24) { next | signature(random, mask) } else { next };
+        match row.ra {
+            // Only the first frame has RA in LR.
+            Place::Register if frame > 0 => return,
+            Place::Register => walk.registers.lr = ra,
+            Place::AtOffset(offset) => put(walk, big, sp.wrapping_add_signed(offset), ra),
+        }
+        let returns_to = if row.signed { ra & !mask } else { ra };
+        looked_up = returns_to.wrapping_sub(1);
         if let Place::AtOffset(offset) = row.fp {
-            let next = sp.wrapping_add(8 * random.below(4));
-            fp = put(walk, big, sp.wrapping_add_signed(offset), next);
+            fp = sp.wrapping_add(8 * random.below(4));
+            put(walk, big, sp.wrapping_add_signed(offset), fp);
         }
     }
 }
 
+// Of a few return addresses the first whose row has a frame of its own with RA's word in it, apart from FP's.
+fn leading_on(random: &mut Random, checked: &Checked, functions: &[Function], section: u64) -> u64 {
+    let has_frame = |ra: u64| match checked.find(section, ra.wrapping_sub(1)).outcome {
+        Outcome::Found { row, .. } => {
+            let inside = |place| matches!(place, Place::AtOffset(offset) if -row.cfa_offset <= offset && offset <= -8);
+            row.base == Base::Sp && inside(row.ra) && (row.fp == Place::Register || inside(row.fp) && row.fp != row.ra)
+        }
+        _ => false,
+    };
+    let mut ra = return_address(random, functions, section);
+    for _ in 0..random.below(16) {
+        if has_frame(ra) {
+            return ra;
+        }
+        ra = return_address(random, functions, section);
+    }
+    ra
+}
+
 // Writes a word where it lies wholly inside the window.
-fn put(walk: &mut Walk, big: bool, address: u64, word: u64) -> u64 {
-    let place = address.wrapping_sub(walk.lies.stack);
+fn put(walk: &mut Walk, big: bool, address: u64, word: u64) {
+    let place = address.wrapping_sub(walk.process.stack);
     let bytes = if big { word.to_be_bytes() } else { word.to_le_bytes() };
     let inside = usize::try_from(place).ok().and_then(|place| walk.stack.get_mut(place..)?.first_chunk_mut());
     if let Some(chunk) = inside {
         *chunk = bytes;
     }
-    word
 }
 
 fn walk(random: &mut Random, functions: &[Function], big: bool) -> Walk {
     let (address, length) = window(random);
     let section = if random.once_in(16) { random.pick(&[0, 0x1000, u64::MAX - 0xffff]) } else { ADDRESS };
+    let process = Process { section, stack: address, mask: mask(random) };
     let near = |random: &mut Random| near_stack(random, address, length);
     let first = random.pick(&[0, 0, 1, 1, 2, u64::MAX]);
     let registers = Registers {
         pc: if first == 0 { return_address(random, functions, section) } else { pc(random, functions, section) },
         sp: near(random),
         fp: near(random),
-        lr: if random.once_in(2) { return_address(random, functions, section) } else { random.pick(&[0, 1, u64::MAX]) },
+        lr: if random.once_in(2) { signed_or_not(random, functions, &process) } else { random.pick(&[0, 1, u64::MAX]) },
         first,
     };
     let mut stack = Vec::new();
     while stack.len() < length {
-        let word = word(random, functions, section, address, length);
+        let word = word(random, functions, &process, length);
         stack.extend(if big { word.to_be_bytes() } else { word.to_le_bytes() });
     }
     stack.truncate(length);
     let (limit, words) = room(random);
-    Walk { lies: Where { section, stack: address }, registers, stack, limit, words }
+    Walk { process, registers, stack, limit, words }
+}
+
+// The usual ones, none, and some that take bits of the addresses too.
+fn mask(random: &mut Random) -> u64 {
+    match random.below(16) {
+        0..=3 => 0,
+        4 => u64::MAX,
+        5 | 6 => 1 << random.below(64),
+        7 => random.number(),
+        _ => random.pick(&USUAL),
+    }
+}
+
+// Some of the mask's bits.
+fn signature(random: &mut Random, mask: u64) -> u64 {
+    random.number() & mask
 }
 
 // Mostly in the middle of the addresses; at an end of them the window may be too long.
@@ -179,12 +227,20 @@ fn return_address(random: &mut Random, functions: &[Function], section: u64) -> 
     pc(random, functions, section).wrapping_add(u64::from(!random.once_in(6)))
 }
 
-fn word(random: &mut Random, functions: &[Function], section: u64, address: u64, length: usize) -> u64 {
+// Which row will read it is not known, so that half of them are signed where any row is, and else hardly one.
+fn signed_or_not(random: &mut Random, functions: &[Function], process: &Process) -> u64 {
+    let any_signed = functions.iter().any(|function| function.rows.iter().any(|row| row.signed));
+    let is_signed = random.once_in(if any_signed { 2 } else { 24 });
+    let signature = if is_signed { signature(random, process.mask) } else { 0 };
+    return_address(random, functions, process.section) | signature
+}
+
+fn word(random: &mut Random, functions: &[Function], process: &Process, length: usize) -> u64 {
     match random.below(16) {
         0 => 0,
         1 => random.number(),
-        2..=4 => near_stack(random, address, length),
-        _ => return_address(random, functions, section),
+        2..=4 => near_stack(random, process.stack, length),
+        _ => signed_or_not(random, functions, process),
     }
 }
 

@@ -21,6 +21,7 @@ use Rattle.accept.specs.declared.verdict.Verdict.the-variants as verdict
 use Rattle.lookup.specs.Finding.{Finding, finds, refuses}
 use Rattle.lookup.specs.computed.Answers.{lookIn}
 use Rattle.caller.specs.Frame.{hasMark, askedOf, cfaOf, callerSp}
+use Rattle.caller.specs.Signature.{isSigned, maskOf, clear}
 use Rattle.caller.specs.declared.place.Spot.{Spot}
 use Rattle.caller.specs.declared.place.Spot.the-variants.{Kept, Saved, Beyond}
 use Rattle.caller.specs.declared.place.Values.{Values}
@@ -30,13 +31,13 @@ use Rattle.caller.specs.declared.registers.Asked.the-variants.{At, Nowhe
 use Rattle.caller.specs.declared.registers.Registers.{Registers}
 use Rattle.caller.specs.declared.registers.Step.{Step}
 use Rattle.caller.specs.declared.registers.Step.the-variants.{Caller, Unsound, Refused}
-use Rattle.caller.specs.declared.registers.Where.{Where}
+use Rattle.caller.specs.declared.registers.Process.{Process}
 
 -- ---- what is tested and read, in document 01's order
 
--- 24: "AArch64 and the row's signed bit is set."
-unfoldable pub isSigned : Shape → Row → Bool
-isSigned shape row = shape .signs && row .signed
+-- 24: "AArch64 and the row's signed bit is set.", and "only when the mask is 0"
+unfoldable pub isMaskless : Shape → Row → Process → Bool
+isMaskless shape row process = isSigned shape row && eqb (process .mask) 0
 
 -- 26: "CFA below SP, or equal to SP without the first-frame mark.", of the caller's SP
 unfoldable pub isLow : Registers → ℕ → Bool
@@ -76,8 +77,8 @@ valuesOf stack lies order registers ra fp =
 -- ---- the checks in document 01's order, each with the old registers where it refuses, else with what comes next
 
 -- 41: "stack address plus length above 2^64"
-unfoldable pub ifFits : List ℕ → Where → Registers → Step → Step
-ifFits stack lies registers next = elim (windowFits stack (lies .stack)) [ true ↦ next | false ↦ Refused registers 41 ]
+unfoldable pub ifFits : List ℕ → Process → Registers → Step → Step
+ifFits stack process registers next = elim (windowFits stack (process .stack)) [ true ↦ next | false ↦ Refused registers 41 ]
 
 -- "Then 1 to 15."
 unfoldable pub stepAfter : Registers → Verdict → Step → Step
@@ -95,8 +96,8 @@ withFinding registers (finds row number) next = next row
 withFinding registers (refuses number) next = Refused registers number
 
 -- 24
-unfoldable pub unlessSigned : Shape → Registers → Row → Step → Step
-unlessSigned shape registers row next = elim (isSigned shape row) [ true ↦ Refused registers 24 | false ↦ next ]
+unfoldable pub unlessMaskless : Shape → Process → Registers → Row → Step → Step
+unlessMaskless shape process registers row next = elim (isMaskless shape row process) [ true ↦ Refused registers 24 | false ↦ next ]
 
 -- "25 when outside 0 to 2^64 - 1."
 unfoldable pub withCfa : Registers → Address → (ℕ → Step) → Step
@@ -111,39 +112,42 @@ unlessLow registers cfa next = elim (isLow registers (callerSp cfa)) [ true ↦ 
 unfoldable pub unlessLost : Registers → Spot → Step → Step
 unlessLost registers ra next = elim (isLost registers ra) [ true ↦ Refused registers 27 | false ↦ next ]
 
--- 28; "The caller has PC = RA, SP = CFA, the new FP, LR unchanged and no mark."
-unfoldable pub withValues : Registers → ℕ → Values → Step
-withValues registers cfa NoRa = Refused registers 28
-withValues registers cfa NoFp = Refused registers 28
-withValues registers cfa (Both ra fp) = Caller (record { pc = ra; sp = callerSp cfa; fp = fp; lr = registers .lr; first = 0 })
+-- 28; "The caller has PC = RA, SP = CFA, the new FP, LR unchanged and no mark.", and RA has the bits of this mask cleared, "wherever RA
+-- came from"
+unfoldable pub withValues : Registers → ℕ → ℕ → Values → Step
+withValues registers mask cfa NoRa = Refused registers 28
+withValues registers mask cfa NoFp = Refused registers 28
+withValues registers mask cfa (Both ra fp) =
+    Caller (record { pc = clear mask ra; sp = callerSp cfa; fp = fp; lr = registers .lr; first = 0 })
 
 -- ---- put together, from the last on, since each names what follows it
 
--- 27 and 28, of two places
-unfoldable pub fromSpots : Shape → List ℕ → Where → Registers → ℕ → Spot → Spot → Step
-fromSpots shape stack lies registers cfa ra fp =
-    unlessLost registers ra (withValues registers cfa (valuesOf stack (lies .stack) (shape .order) registers ra fp))
+-- 27 and 28, of two places and the bits to clear
+unfoldable pub fromSpots : Shape → List ℕ → Process → Registers → ℕ → ℕ → Spot → Spot → Step
+fromSpots shape stack process registers mask cfa ra fp =
+    unlessLost registers ra (withValues registers mask cfa (valuesOf stack (process .stack) (shape .order) registers ra fp))
 
 -- 26 to 28, of a row and its CFA
-unfoldable pub fromCfa : Shape → List ℕ → Where → Registers → Row → ℕ → Step
-fromCfa shape stack lies registers row cfa =
-    unlessLow registers cfa (fromSpots shape stack lies registers cfa (spotOf cfa (row .ra)) (spotOf cfa (row .fp)))
+unfoldable pub fromCfa : Shape → List ℕ → Process → Registers → Row → ℕ → Step
+fromCfa shape stack process registers row cfa =
+    unlessLow registers cfa
+    (fromSpots shape stack process registers (maskOf shape row process) cfa (spotOf cfa (row .ra)) (spotOf cfa (row .fp)))
 
 -- 24 to 28, of a row
-unfoldable pub fromRow : Shape → List ℕ → Where → Registers → Row → Step
-fromRow shape stack lies registers row =
-    unlessSigned shape registers row (withCfa registers (inMemory (cfaOf registers row)) (fromCfa shape stack lies registers row))
+unfoldable pub fromRow : Shape → List ℕ → Process → Registers → Row → Step
+fromRow shape stack process registers row =
+    unlessMaskless shape process registers row (withCfa registers (inMemory (cfaOf registers row)) (fromCfa shape stack process registers row))
 
 -- 21 to 28, of what a lookup found
-unfoldable pub fromFinding : Shape → List ℕ → Where → Registers → Finding → Step
-fromFinding shape stack lies registers found = withFinding registers found (fromRow shape stack lies registers)
+unfoldable pub fromFinding : Shape → List ℕ → Process → Registers → Finding → Step
+fromFinding shape stack process registers found = withFinding registers found (fromRow shape stack process registers)
 
 -- the step on a section that was accepted
-unfoldable pub stepOf : Shape → (ℕ → Finding) → List ℕ → Where → Registers → Step
-stepOf shape look stack lies registers = fromFinding shape stack lies registers (lookAt look (askedOf registers))
+unfoldable pub stepOf : Shape → (ℕ → Finding) → List ℕ → Process → Registers → Step
+stepOf shape look stack process registers = fromFinding shape stack process registers (lookAt look (askedOf registers))
 
 -- the step on any section: "41: .. Then 1 to 15."
-unfoldable pub stepIn : List ℕ → List ℕ → Where → Registers → Step
-stepIn s stack lies registers =
-    ifFits stack lies registers
-    (stepAfter registers (verdict s) (stepOf (shapeOf s) (lookIn s (lies .section)) stack lies registers))
+unfoldable pub stepIn : List ℕ → List ℕ → Process → Registers → Step
+stepIn s stack process registers =
+    ifFits stack process registers
+    (stepAfter registers (verdict s) (stepOf (shapeOf s) (lookIn s (process .section)) stack process registers))

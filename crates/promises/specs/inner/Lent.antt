@@ -10,4 +10,4 @@ pub record Lies : Type 0 where
   pub name : GName
 
 abbrev pub lent : Lies → List ℕ → RefT (List ℕ)
-lent lies elements = record { ptr = lies .place; name = lies .name; now = elements }
+lent process elements = record { ptr = process .place; name = process .name; now = elements }

@@ -17,7 +17,7 @@ use Rattle.caller.specs.computed.Caller.{stepOf}
 use Rattle.caller.specs.declared.registers.Registers.{Registers}
 use Rattle.caller.specs.declared.registers.Step.{Step}
 use Rattle.caller.specs.declared.registers.Step.the-variants as step
-use Rattle.caller.specs.declared.registers.Where.{Where}
+use Rattle.caller.specs.declared.registers.Process.{Process}
 use Rattle.trace.specs.Frames.{TraceReply, inForce, frameOf, withMark, allWords, over, tracedAs}
 use Rattle.trace.specs.declared.answer.Ending.{Ending}
 use Rattle.trace.specs.declared.answer.Ending.the-variants.{Outermost, Full, Refused, Shut, Unsound}
@@ -52,22 +52,22 @@ walkOf step zero registers = ended Full
 walkOf step (suc left) registers = onward (step registers) (walkOf step left)
 
 -- the walk on a section that was accepted
-unfoldable pub checkedWalk : List ℕ → List ℕ → Where → ℕ → Registers → Walk
-checkedWalk s stack lies limit registers = walkOf (stepOf (shapeOf s) (lookIn s (lies .section)) stack lies) limit registers
+unfoldable pub checkedWalk : List ℕ → List ℕ → Process → ℕ → Registers → Walk
+checkedWalk s stack process limit registers = walkOf (stepOf (shapeOf s) (lookIn s (process .section)) stack process) limit registers
 
 -- ---- what is tried first
 
 -- "Before anything else, in order: 41 stack address plus length above 2^64; 42 limit above 256; 43 fewer than 3 words per limit
 -- frame"
-unfoldable pub doorTests : List ℕ → Where → ℕ → ℕ → List (Bool × ℕ)
-doorTests stack lies limit words =
-    (not (windowFits stack (lies .stack)), 41)
+unfoldable pub doorTests : List ℕ → Process → ℕ → ℕ → List (Bool × ℕ)
+doorTests stack process limit words =
+    (not (windowFits stack (process .stack)), 41)
     ∷ (ltb 256 limit, 42)
     ∷ (ltb words (3 * inForce limit), 43)
     ∷ []
 
-unfoldable pub doorFault : List ℕ → Where → ℕ → ℕ → Fault
-doorFault stack lies limit words = firstBad (doorTests stack lies limit words)
+unfoldable pub doorFault : List ℕ → Process → ℕ → ℕ → Fault
+doorFault stack process limit words = firstBad (doorTests stack process limit words)
 
 -- "These write nothing and answer 0 frames with their number, and for 1 to 15 the entry's index."
 unfoldable pub afterDoor : Fault → Walk → Walk
@@ -78,10 +78,10 @@ unfoldable pub walkAfter : Verdict → Walk → Walk
 walkAfter verdict.Accepted next = next
 walkAfter (verdict.Refused number index) next = ended (Unsound number index)
 
-unfoldable pub walkIn : List ℕ → List ℕ → Where → Registers → ℕ → ℕ → Walk
-walkIn s stack lies registers limit words =
-    afterDoor (doorFault stack lies limit words)
-    (walkAfter (verdict s) (checkedWalk s stack lies (inForce limit) (withMark registers)))
+unfoldable pub walkIn : List ℕ → List ℕ → Process → Registers → ℕ → ℕ → Walk
+walkIn s stack process registers limit words =
+    afterDoor (doorFault stack process limit words)
+    (walkAfter (verdict s) (checkedWalk s stack process (inForce limit) (withMark registers)))
 
 -- ---- the answer, and the buffer
 
@@ -90,5 +90,5 @@ unfoldable pub traced : Walk → List ℕ → TraceReply
 traced walk old = tracedAs (record { ending = walk .ending; frames = length (walk .frames) }) (over (allWords (walk .frames)) old)
 
 -- the answer, and the words of the buffer at exit
-unfoldable pub traceOf : List ℕ → List ℕ → Where → Registers → ℕ → List ℕ → TraceReply
-traceOf s stack lies registers limit old = traced (walkIn s stack lies registers limit (length old)) old
+unfoldable pub traceOf : List ℕ → List ℕ → Process → Registers → ℕ → List ℕ → TraceReply
+traceOf s stack process registers limit old = traced (walkIn s stack process registers limit (length old)) old

@@ -4,8 +4,8 @@ use Rattle.caller.specs.inner.Opened.{callerOpened}
 use Rattle.trace.specs.Frames.{inForce, frameOf, wordsOf, withMark, allWords, over, tracedAs}
 use Rattle.trace.specs.Numbers.{numberOfTraceCause, endingNumber, endingIndexes}
 use Rattle.trace.specs.computed.Trace.{ended, withFrame, unlessOutermost, onward, walkOf, checkedWalk, doorTests, doorFault, afterDoor, walkAfter, walkIn, traced, traceOf}
-use Rattle.trace.specs.inner.Writing.{withoutMark, put}
+use Rattle.trace.specs.inner.Writing.{nextFrom, put}
 
 unfoldable pub traceOpened : Unit {0}
-unfolding callerOpened inForce frameOf wordsOf ended withFrame unlessOutermost onward walkOf withMark withoutMark checkedWalk doorTests doorFault afterDoor walkAfter walkIn allWords over put tracedAs traced traceOf numberOfTraceCause endingNumber endingIndexes
+unfolding callerOpened inForce frameOf wordsOf ended withFrame unlessOutermost onward walkOf withMark nextFrom checkedWalk doorTests doorFault afterDoor walkAfter walkIn allWords over put tracedAs traced traceOf numberOfTraceCause endingNumber endingIndexes
 traceOpened = tt

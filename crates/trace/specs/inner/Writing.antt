@@ -5,9 +5,9 @@ use lib.ListN.{take, drop}
 use Rattle.caller.specs.declared.registers.Registers.{Registers}
 use Rattle.trace.specs.Frames.{over}
 
--- a caller has "no mark", so that this is the caller itself (`unmarked-same`)
-unfoldable pub withoutMark : Registers → Registers
-withoutMark registers = record { pc = registers .pc; sp = registers .sp; fp = registers .fp; lr = registers .lr; first = 0 }
+-- a caller has "LR unchanged and no mark", so that this is the caller itself (`next-same`)
+unfoldable pub nextFrom : Registers → Registers → Registers
+nextFrom caller last = record { pc = caller .pc; sp = caller .sp; fp = caller .fp; lr = last .lr; first = 0 }
 
 -- words written from a place on
 unfoldable pub put : List ℕ → ℕ → List ℕ → List ℕ

@@ -15,8 +15,14 @@ use table::Line;
 /// The argument that asks for the table of rows alone.
 const ROWS_ALONE: &str = "rows";
 
+/// The argument that asks for the frames of traces alone.
+const FRAMES_ALONE: &str = "frames";
+
 fn main() {
     let begin = Instant::now();
+    if env::args().any(|argument| argument == FRAMES_ALONE) {
+        return print_frames();
+    }
     times::assert_alike_on_stored_cases();
     let libsframe = Libsframe::open();
     if !env::args().any(|argument| argument == ROWS_ALONE) {
@@ -26,6 +32,14 @@ fn main() {
     println!();
     print_notes(libsframe.err());
     println!("measured in {:.0} s", begin.elapsed().as_secs_f64());
+}
+
+// Traces where a frame of them can be told.
+fn print_frames() {
+    table::print_head();
+    for section in &sections::of_frames() {
+        times::of_trace(section, None).iter().for_each(Line::print);
+    }
 }
 
 // Every call in every section, and the stack that each call uses.
@@ -56,6 +70,7 @@ fn print_notes(no_libsframe: Option<String>) {
     );
     println!("find: a lookup in a section that was checked once. caller, trace: one call with its check.");
     println!("frame: one of a trace's 64 frames, the check taken off, where it is not lost in the check's time.");
+    println!("signed: every row has the signed bit, and the trace a mask that clears a signature from each RA.");
     println!(
         "libsframe: sframe_decode and sframe_decoder_free beside check, sframe_find_fre beside find. A decode looks at"
     );

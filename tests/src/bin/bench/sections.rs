@@ -1,7 +1,7 @@
 //! The sections that are timed.
 
 use suntimpani_tests::maker::{Function, Machine, Row, Section, SORTED};
-use suntimpani_tests::reader::{functions, Registers, Where};
+use suntimpani_tests::reader::{functions, Process, Registers};
 use suntimpani_tests::stream::Random;
 use suntimpani_tests::walk::Walk;
 use suntimpani_tests::{cases, laid, large, ADDRESS};
@@ -30,8 +30,11 @@ pub struct Timed {
     pub listed: bool,
 }
 
-/// Sections of every size by one construction, one that is not sorted, a large one of the corpus, one of many rows to be
-/// listed and, for the frames of a trace, two small ones.
+/// What is cleared from the return addresses of signed rows: addresses of 48 bits, below a top byte that is ignored.
+pub const MASK: u64 = 0x007f_0000_0000_0000;
+
+/// Sections of every size by one construction, one that is not sorted, a large one of the corpus, one of many rows to
+/// be listed and, for the frames of a trace, three small ones; the last is as the one before it, with every row signed.
 pub fn all() -> Vec<Timed> {
     let mut all: Vec<Timed> = SIZES.map(|count| whole(name_of(count, ""), large::many_functions(count).bytes())).into();
     let gas = whole("GNU as: 2,689 functions".to_string(), cases::corpus_section("gas_exe"));
@@ -49,15 +52,29 @@ pub fn all() -> Vec<Timed> {
         checked: false,
         listed: false,
     });
+    all.extend(small());
+    all
+}
+
+/// The sections in which a frame of a trace can be told: 100 functions, and the small ones.
+pub fn of_frames() -> Vec<Timed> {
+    let hundred = whole(name_of(100, ""), large::many_functions(100).bytes());
+    [hundred].into_iter().chain(small()).collect()
+}
+
+fn small() -> Vec<Timed> {
     let of_traces = |name: &str, bytes, walk| {
         let name = name.to_string();
         Timed { name, bytes, pcs: Vec::new(), walk: Some(walk), checked: false, listed: false }
     };
-    all.push(of_traces("S of document 01, one function calls itself", cases::S.to_vec(), calls_itself()));
-    let big = small_big_endian();
+    let of_s = of_traces("S of document 01, one function calls itself", cases::S.to_vec(), calls_itself());
+    let big = small_big_endian(false);
     let walk = laid::through(&big, FRAMES as usize, SEED);
-    all.push(of_traces("AArch64 big-endian: 4 functions", big, walk));
-    all
+    let plain = of_traces("AArch64 big-endian: 4 functions", big, walk);
+    let signed = small_big_endian(true);
+    let walk = laid::through_signed(&signed, FRAMES as usize, SEED, MASK);
+    let signed = of_traces("AArch64 big-endian: 4 functions, signed", signed, walk);
+    vec![of_s, plain, signed]
 }
 
 fn whole(name: String, bytes: Vec<u8>) -> Timed {
@@ -88,7 +105,7 @@ fn calls_itself() -> Walk {
     let chain = (1..=FRAMES).flat_map(|frame| [begin + 16 * frame, if frame == FRAMES { 0 } else { pc }]);
     let registers = Registers { pc, sp: begin, fp: begin, lr: 0, first: 1 };
     Walk {
-        lies: Where { section: 0x40_0000, stack: begin },
+        process: Process { section: 0x40_0000, stack: begin, mask: 0 },
         registers,
         stack: chain.flat_map(u64::to_le_bytes).collect(),
         limit: FRAMES,
@@ -96,11 +113,12 @@ fn calls_itself() -> Walk {
     }
 }
 
-fn small_big_endian() -> Vec<u8> {
+/// A small section of AArch64, with no row signed or every one.
+pub fn small_big_endian(signed: bool) -> Vec<u8> {
     let mut section = Section::new(Machine::Aarch64Big);
     section.flags = SORTED;
-    let rows =
-        || vec![Row::new(0, 0, &[16, -8, -16]), Row::new(8, 0, &[48, -40, -48]), Row::new(60, 0, &[16, -8, -16])];
+    let row = |start, offsets: [i32; 3]| Row { signed, ..Row::new(start, 0, &offsets) };
+    let rows = || vec![row(0, [16, -8, -16]), row(8, [48, -40, -48]), row(60, [16, -8, -16])];
     section.functions = (0..4).map(|index| Function::new(0x1000 + 64 * index, 64, 0, rows())).collect();
     section.bytes()
 }

@@ -1,6 +1,7 @@
 //! How much stack the seven calls use: each is made on a painted stack, beside an empty call of the same form, over
 //! sections small and large, sound and damaged.
 
+use crate::sections::{small_big_endian, MASK};
 use crate::table;
 use std::hint::black_box;
 use suntimpani_tests::comparison::Call;
@@ -32,7 +33,7 @@ pub fn print_lines() {
     }
 }
 
-// The stored cases, the cases at the limit, and a trace of as many frames as a limit allows.
+// The stored cases, the cases at the limit, and traces of as many frames as a limit allows, one through signed rows.
 fn of_cases() -> impl Iterator<Item = Turn> {
     let at_the_limit = (0..large::AT_THE_LIMIT_COUNT).map(large::at_the_limit);
     let of_case = |case: cases::Case| Turn {
@@ -43,17 +44,19 @@ fn of_cases() -> impl Iterator<Item = Turn> {
         places: places(&mut Random::new(SEED), &case.section),
         section: case.section,
     };
-    let gas = cases::corpus_section("gas_exe");
-    let walks = vec![laid::through(&gas, MOST_FRAMES, SEED)];
-    let deep = Turn {
-        length: gas.len(),
+    let deep = |section: Vec<u8>, walk| Turn {
+        length: section.len(),
         questions: vec![(ADDRESS, ADDRESS)],
-        walks,
+        walks: vec![walk],
         indexes: vec![0],
         places: Vec::new(),
-        section: gas,
+        section,
     };
-    cases::all().into_iter().chain(at_the_limit).map(of_case).chain([deep])
+    let (gas, signed) = (cases::corpus_section("gas_exe"), small_big_endian(true));
+    let walk = laid::through(&gas, MOST_FRAMES, SEED);
+    let signed_walk = laid::through_signed(&signed, MOST_FRAMES, SEED, MASK);
+    let deepest = [deep(gas, walk), deep(signed, signed_walk)];
+    cases::all().into_iter().chain(at_the_limit).map(of_case).chain(deepest)
 }
 
 impl Most {
@@ -77,11 +80,11 @@ impl Most {
     }
 
     fn measure_walk(&mut self, section: &[u8], walk: &Walk) {
-        self.take(Call::Caller, |calls| discard(calls.step(section, &walk.stack, walk.lies, walk.registers)));
+        self.take(Call::Caller, |calls| discard(calls.step(section, &walk.stack, walk.process, walk.registers)));
         let mut buffer = lent(walk.words.max(3 * MOST_FRAMES));
         let limit = MOST_FRAMES as u64;
         self.take(Call::Trace, |calls| {
-            discard(calls.trace(section, &walk.stack, walk.lies, walk.registers, limit, &mut buffer))
+            discard(calls.trace(section, &walk.stack, walk.process, walk.registers, limit, &mut buffer))
         });
     }
 

@@ -142,8 +142,8 @@ pub fn of_caller(timed: &Timed, _: Option<&Libsframe>) -> Vec<Line> {
     let (Some(walk), true) = (&timed.walk, timed.checked) else { return Vec::new() };
     let section = &timed.bytes[..];
     assert_alike_by_walk(timed, walk);
-    let mut library = || discard(LIBRARY.step(black_box(section), &walk.stack, walk.lies, walk.registers));
-    let mut reader = || discard(reader::step(black_box(section), &walk.stack, walk.lies, walk.registers));
+    let mut library = || discard(LIBRARY.step(black_box(section), &walk.stack, walk.process, walk.registers));
+    let mut reader = || discard(reader::step(black_box(section), &walk.stack, walk.process, walk.registers));
     vec![line("caller", timed, turn_about(ROUNDS, &mut [&mut library, &mut reader]))]
 }
 
@@ -174,7 +174,7 @@ fn assert_alike_by_walk(timed: &Timed, walk: &Walk) {
     let (section, name) = (&timed.bytes[..], &timed.name);
     let walked = walk.by_reader(section);
     assert_eq!((walked.traced.frames, walked.traced.ending.number()), (FRAMES, 30), "{name}");
-    let step = LIBRARY.step(section, &walk.stack, walk.lies, walk.registers);
+    let step = LIBRARY.step(section, &walk.stack, walk.process, walk.registers);
     assert_eq!(step, library::Step::of(&walked.step), "{name}");
     let mut words = lent(walk.words);
     let traced = library_trace(section, walk, &mut words);
@@ -182,11 +182,11 @@ fn assert_alike_by_walk(timed: &Timed, walk: &Walk) {
 }
 
 fn library_trace(section: &[u8], walk: &Walk, buffer: &mut [u64]) -> library::Traced {
-    LIBRARY.trace(section, &walk.stack, walk.lies, walk.registers, walk.limit, buffer)
+    LIBRARY.trace(section, &walk.stack, walk.process, walk.registers, walk.limit, buffer)
 }
 
 fn reader_trace(section: &[u8], walk: &Walk, buffer: &mut [u64]) -> reader::Traced {
-    reader::trace(section, &walk.stack, walk.lies, walk.registers, walk.limit, buffer)
+    reader::trace(section, &walk.stack, walk.process, walk.registers, walk.limit, buffer)
 }
 
 // The library's times, the reader's and, where there are any, libsframe's.

@@ -14,7 +14,7 @@ use Rattle.trace.proofs.walk.door_fault.Tie as tie
 returns : tie.Need-returns
 returns c = door-window _ _ _ _ (sym (c .before .window-fits .ensures) ∙ not-true _ (c .if1 .taken))
 
-fits : (c : tie.Else1) → windowFits (now (c .before .before .before .args .stack)) (c .before .before .before .args .lies .stack) ≡ true
+fits : (c : tie.Else1) → windowFits (now (c .before .before .before .args .stack)) (c .before .before .before .args .process .stack) ≡ true
 fits c = sym (c .before .window-fits .ensures) ∙ not-false _ (c .if1 .left)
 
 returns-2 : tie.Need-returns-2

@@ -10,21 +10,21 @@ use types.Run.{miss}
 use Rattle.section.specs.Meaning.{shapeOf}
 use Rattle.lookup.specs.computed.Answers.{lookIn}
 use Rattle.caller.specs.computed.Caller.{stepOf}
-use Rattle.caller.proofs.NumberLaws.{caller-unmarked}
+use Rattle.caller.proofs.NumberLaws.{caller-unmarked, caller-keeps-lr}
 use Rattle.trace.specs.Frames.{frameOf, wordsOf, tracedAs}
 use Rattle.trace.specs.computed.Trace.{checkedWalk}
-use Rattle.trace.specs.inner.Writing.{withoutMark, put}
+use Rattle.trace.specs.inner.Writing.{nextFrom, put}
 use Rattle.trace.specs.declared.answer.Ending.the-variants.{Outermost, Refused}
-use Rattle.trace.proofs.GoingLaws.{unmarked-same, Going, going-begins, going-full, going-refused, going-fits, going-same, going-outermost, going-on}
+use Rattle.trace.proofs.GoingLaws.{next-same, Going, going-begins, going-full, going-refused, going-fits, going-same, going-outermost, going-on}
 use Rattle.trace.proofs.walk.walk.Statement.{statement}
 use Rattle.trace.proofs.walk.walk.Tie as tie
 
 abbrev Inv-loop : tie.InvT-loop
-Inv-loop section layout stack lies limit buffer₀ current₀ frames₀ left₀ buffer current frames left =
-    Going (stepOf (shapeOf section) (lookIn section (lies .section)) stack lies) limit current₀ buffer₀ buffer current frames left
+Inv-loop section layout stack process limit buffer₀ current₀ frames₀ left₀ buffer current frames left =
+    Going (stepOf (shapeOf section) (lookIn section (process .section)) stack process) limit current₀ buffer₀ buffer current frames left
 
 abbrev μ-loop : tie.MeasureT-loop
-μ-loop section layout stack lies limit buffer₀ current₀ frames₀ left₀ buffer current frames left = left
+μ-loop section layout stack process limit buffer₀ current₀ frames₀ left₀ buffer current frames left = left
 
 loop-holds : tie.Need-loop-holds Inv-loop μ-loop
 loop-holds c = going-begins
@@ -105,13 +105,14 @@ loop-less : tie.Need-loop-less Inv-loop μ-loop
 loop-less c = omega (arith, more (turn-of (c .before .before .before .before .before .before .before .before)))
 
 -- the next step begins with the caller
-next : (c : tie.After-without-mark Inv-loop μ-loop) → c .without-mark .result ≡ told-of (c .before .before .before .before .before) .before .step .given .0 .0
+next : (c : tie.After-next-from Inv-loop μ-loop) → c .next-from .result ≡ told-of (c .before .before .before .before .before) .before .step .given .0 .0
 next c =
     let told = told-of (c .before .before .before .before .before) in
     let caller = told .before .step .given .0 .0 in
-    let is : c .without-mark .result ≡ withoutMark caller = c .without-mark .ensures in
+    let current = turn-of told .before .loop .current in
+    let is : c .next-from .result ≡ nextFrom caller current = c .next-from .ensures in
     let yields = sym (told .before .before .before .step-checked .ensures) ∙ told .before .step .given .1 in
-    is ∙ unmarked-same caller (caller-unmarked _ _ _ _ _ caller yields)
+    is ∙ next-same caller current (caller-unmarked _ _ _ _ _ caller yields) (caller-keeps-lr _ _ _ _ _ caller yields)
 
 loop-again : tie.Need-loop-again Inv-loop μ-loop
 loop-again c =

@@ -13,9 +13,9 @@ returns c = rw (sym (rw (c .before .before .caller-sp .ensures) at (c .before .i
 returns-2 : tie.Need-returns-2
 unfolding fromCfa unlessLow
 returns-2 c =
-    let left = c .before .before .before in
+    let left = c .before .before .before .before in
     rw (sym (rw (left .before .before .caller-sp .ensures) at (left .before .is-low .ensures)) ∙ left .if1 .left, unlessLow)
-    (rw (c .before .before .spot-of .ensures, c .before .spot-of2 .ensures) at (c .from-spots .ensures))
+    (rw (c .before .before .before .mask-of .ensures, c .before .before .spot-of .ensures, c .before .spot-of2 .ensures) at (c .from-spots .ensures))
 
 pub from-cfa-spec : {M : Type 1} → statement M
-from-cfa-spec = tie.close (tie.spec (λ c κs. search needs) (λ c κs. search needs) returns (λ c κs. search needs) (λ c κs. search needs) (λ c κs. search needs) returns-2)
+from-cfa-spec = tie.close (tie.spec (λ c κs. search needs) (λ c κs. search needs) returns (λ c κs. search needs) (λ c κs. search needs) (λ c κs. search needs) (λ c κs. search needs) returns-2)

@@ -14,7 +14,7 @@ returns-2 : tie.Need-returns-2
 unfolding fromSpots unlessLost
 returns-2 c =
     let left = c .before .before in
-    rw (sym (left .before .is-lost .ensures) ∙ left .if1 .left, unlessLost) (c .with-values .ensures ∙ ap (withValues _ _) (c .before .values-at .ensures))
+    rw (sym (left .before .is-lost .ensures) ∙ left .if1 .left, unlessLost) (c .with-values .ensures ∙ ap (withValues _ _ _) (c .before .values-at .ensures))
 
 pub from-spots-spec : {M : Type 1} → statement M
 from-spots-spec = tie.close (tie.spec (λ c κs. search needs) returns (λ c κs. search needs) (λ c κs. search needs) returns-2)

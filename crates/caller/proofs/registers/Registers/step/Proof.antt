@@ -12,7 +12,7 @@ use Rattle.caller.proofs.registers.Registers.step.Statement.{statement}
 use Rattle.caller.proofs.registers.Registers.step.Tie as tie
 
 fits : (c : tie.Else1)
-    → windowFits (now (c .before .before .before .before .args .stack)) (c .before .before .before .before .args .lies .stack) ≡ true
+    → windowFits (now (c .before .before .before .before .args .stack)) (c .before .before .before .before .args .process .stack) ≡ true
 fits c = sym (c .before .window-fits .ensures) ∙ not-false _ (c .if1 .left)
 
 returns : tie.Need-returns

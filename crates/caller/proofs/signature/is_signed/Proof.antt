@@ -1,8 +1,8 @@
--- `step::is_signed` asks for the bit where the machine signs.
+-- `signature::is_signed` asks for the bit where the machine signs.
 -- Assumes nothing.
-use Rattle.caller.specs.computed.Caller.{isSigned}
-use Rattle.caller.proofs.step.is_signed.Statement.{statement}
-use Rattle.caller.proofs.step.is_signed.Tie as tie
+use Rattle.caller.specs.Signature.{isSigned}
+use Rattle.caller.proofs.signature.is_signed.Statement.{statement}
+use Rattle.caller.proofs.signature.is_signed.Tie as tie
 
 returns : tie.Need-returns
 unfolding isSigned
