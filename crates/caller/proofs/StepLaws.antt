@@ -87,7 +87,7 @@ module _ (s stack : List ℕ) (process : Process) (registers : Registers) where
       found-given (h .obeys) (h .fits) (h .asked) (unfound-exactly-when s (h .obeys) (process .section) (h .pc) why .1 (h .holds))
 
   module _ {row : Row} where
-    pub row-given : RowFound s stack process registers row → answer ≡ fromRow (shapeOf s) stack process registers row
+    row-given : RowFound s stack process registers row → answer ≡ fromRow (shapeOf s) stack process registers row
     unfolding fromFinding withFinding
     row-given h =
         let (i, k, found) = h .holds in

@@ -1,4 +1,4 @@
--- When each answer of a step is given (SPECIFICATION 5.2 to 5.13), as plain propositions over any section, stack window and
+-- When each answer of a step is given (SPECIFICATION 5.2 to 5.14), as plain propositions over any section, stack window and
 -- registers, in document 01's words. A rule of 24 to 41 stands here as what breaks it; nothing says how a row is looked for or a
 -- word is read.
 use mathlib.Core.Path.{_≡_}

@@ -1,4 +1,4 @@
--- The caller in the bytes of the row that covers the PC asked, row k of function i (SPECIFICATION 2.9, 5.6 to 5.11): what document
+-- The caller in the bytes of the row that covers the PC asked, row k of function i (SPECIFICATION 2.9, 5.6 to 5.11 and 5.14): what document
 -- 01 says of each machine, with no decoded row between.
 use mathlib.Core.Path.{_≡_}
 use mathlib.Core.Bool.{true}
