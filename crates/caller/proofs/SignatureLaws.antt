@@ -12,7 +12,7 @@ use lib.Bits.{bitAnd, and-step, and-le-r}
 use Rattle.section.specs.declared.row.Row.{Row}
 use Rattle.section.specs.declared.shape.Shape.{Shape}
 use Rattle.lookup.proofs.CoveringLaws.{is-true, is-false}
-use Rattle.caller.specs.Signature.{Signed, isSigned, maskOf, clear, bit, Cleared, OnlySignature}
+use Rattle.caller.specs.Signature.{Signed, maskOf, clear, bit, Cleared, OnlySignature}
 use Rattle.caller.specs.declared.registers.Process.{Process}
 use Rattle.caller.proofs.TestLaws.{signed-shows}
 

@@ -2,7 +2,6 @@
 -- registers, in document 01's words. A rule of 24 to 41 stands here as what breaks it; nothing says how a row is looked for or a
 -- word is read.
 use mathlib.Core.Path.{_≡_}
-use mathlib.Core.Bool.{true}
 use mathlib.Core.List.{List}
 use mathlib.Core.Logic.{_⊎_}
 use Prim.Native.Nat.{ℕ, _+_, _-_, _^_, _≤_, _<_}

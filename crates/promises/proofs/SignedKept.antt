@@ -10,7 +10,6 @@ use Rattle.section.specs.Meaning.{shapeOf}
 use Rattle.accept.specs.Rules.{Obeys}
 use Rattle.caller.specs.Cases.{CallerCase}
 use Rattle.caller.specs.Signature.{Signed, maskOf, Cleared, OnlySignature}
-use Rattle.caller.specs.computed.Caller.{stepIn}
 use Rattle.caller.specs.declared.registers.Process.{Process}
 use Rattle.caller.specs.declared.registers.Registers.{Registers}
 use Rattle.caller.proofs.Exactly.{caller-exactly-when, number-24-exactly-when}

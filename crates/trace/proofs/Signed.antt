@@ -3,8 +3,8 @@
 -- seen.
 -- Assumes nothing.
 use mathlib.Core.Path.{_≡_, refl, sym, _∙_, ap, subst}
-use mathlib.Core.List.{List, []}
-use mathlib.Core.Logic.{_↔_, _⊎_, inl, inr, ⊎-elim}
+use mathlib.Core.List.{List}
+use mathlib.Core.Logic.{⊎-elim}
 use Prim.Native.Nat.{ℕ, suc, _+_, _-_, _*_, _<_}
 use native.Mathlib.Nat.{eq-or-lt-of-le}
 use native.Mathlib.Omega.{arith}
@@ -13,20 +13,17 @@ use Rattle.section.specs.Header.{layoutOf}
 use Rattle.section.specs.Meaning.{shapeOf}
 use Rattle.section.specs.declared.row.Row.{Row}
 use Rattle.section.specs.declared.shape.Abi.the-variants.{Amd64}
-use Rattle.accept.specs.Rules.{Obeys}
 use Rattle.accept.specs.computed.Checks.{verdict}
 use Rattle.accept.specs.declared.verdict.Fault.{Fault}
 use Rattle.accept.specs.declared.verdict.Fault.the-variants.{Breaks}
 use Rattle.accept.specs.declared.verdict.Verdict.{Verdict}
 use Rattle.accept.specs.declared.verdict.Verdict.the-variants as verdict
 use Rattle.accept.proofs.Exactly.{accepted-exactly-when}
-use Rattle.lookup.specs.computed.Answers.{lookIn}
 use Rattle.lookup.proofs.CoveringLaws.{is-false}
 use Rattle.caller.specs.Cases.{WindowFits, RowFound, CallerCase}
 use Rattle.caller.specs.Frame.{askedOf}
 use Rattle.caller.specs.Numbers.{signed, numberOfRefusal}
 use Rattle.caller.specs.Signature.{Signed, maskOf, clear, withMask, OnlySignature}
-use Rattle.caller.specs.computed.Caller.{stepOf}
 use Rattle.caller.specs.declared.registers.Asked.the-variants.{At}
 use Rattle.caller.specs.declared.registers.Process.{Process}
 use Rattle.caller.specs.declared.registers.Registers.{Registers}
@@ -84,12 +81,13 @@ module _ (s stack : List ℕ) (process : Process) (registers : Registers) (limit
 
   -- ---- "The test for ending 30 uses the cleared RA."
 
-  -- the walk of any case ends with the frame whose RA is 0
+  -- two walks of the same frames have the same RAs
   same-pc : {frames : List Frame} (f g : Follows (CallerCase s stack process) (withMark registers) frames) (k : ℕ) → k < length frames
       → f .at (suc k) .pc ≡ g .at (suc k) .pc
   unfolding frameOf
   same-pc f g k lt = ap (λ frame. frame .ra) (sym (f .written k lt) ∙ g .written k lt)
 
+  -- a frame with RA 0 is the last, and the trace of these frames ends with 30
   module _ {frames : List Frame} (f : Follows (CallerCase s stack process) (withMark registers) frames) (k : ℕ) (lt : k < length frames) (zero : f .at (suc k) .pc ≡ 0) where
     last-frame : suc k ≡ length frames
     last-frame = ⊎-elim (λ is. is) (λ less. absurd (f .goes-on k less zero)) (eq-or-lt-of-le lt)
