@@ -3,10 +3,10 @@
  * You lend it the bytes of an `.sframe` section (SFrame version 2 with errata 1; AMD64, and AArch64 in both byte
  * orders), registers, a stack window and a buffer. It says whether the section is sound (suntimpani_check), where the
  * function with an index lies (suntimpani_function_at) and what its rows are, one by one (suntimpani_rows_of,
- * suntimpani_next_row), which function and row cover a PC (suntimpani_lookup), what one caller's registers are
- * (suntimpani_caller), and what the whole trace is (suntimpani_trace). Any bytes and any numbers may be handed in:
- * nothing outside what is lent is read, every call ends, and an answer that cannot be given is a refusal with a number
- * and a rule.
+ * suntimpani_next_row), which function and row cover a PC (suntimpani_lookup, and suntimpani_ask without a check of the
+ * whole section), what one caller's registers are (suntimpani_caller), and what the whole trace is (suntimpani_trace).
+ * Any bytes and any numbers may be handed in: nothing outside what is lent is read, every call ends, and an answer that
+ * cannot be given is a refusal with a number and a rule.
  *
  *     cc program.c -lsuntimpani
  *
@@ -15,7 +15,7 @@
  *
  * What is lent
  *
- * Nothing is allocated, nothing is kept after a call returns, and there is no state. So all seven functions may be
+ * Nothing is allocated, nothing is kept after a call returns, and there is no state. So all eight functions may be
  * called in a signal handler, on a small alternate stack, and from several threads at once. What you lend stays yours;
  * only the buffer of suntimpani_trace is written to.
  *
@@ -35,7 +35,8 @@
  * every function, so its time grows with them. Functions may share rows, so a section that was made to be slow can ask
  * for far more time than its length tells. suntimpani_function_at and suntimpani_rows_of make no check: they try rules
  * 1 to 8 and read one entry. suntimpani_next_row reads one row alone. So the time of these three does not grow with
- * the section.
+ * the section. suntimpani_ask makes none either: it tries rules 1 to 8 and reads at most 20 entries and the rows of one
+ * function, so that its time grows with these rows alone.
  *
  *
  * Signed return addresses
@@ -71,8 +72,8 @@
  * have no number: they are told as they stand, and where none can be told there are no more. "Entry" is a function's
  * entry in the section's function table; indexes count from 0.
  *
- * By check, lookup, caller and trace, on the section; 1 to 8, on its header, by suntimpani_function_at too.
- * 9 to 14 have the index of the entry that breaks the rule; the index of 1 to 8 and of 15 is 0.
+ * By check, lookup, caller and trace, on the section; 1 to 8, on its header, by suntimpani_function_at and
+ * suntimpani_ask too. 9 to 14 have the index of the entry that breaks the rule; the index of 1 to 8 and of 15 is 0.
  *
  *      1  the section has fewer than 28 bytes
  *      2  it has more than 16,777,216 bytes
@@ -100,6 +101,14 @@
  *     21  no function covers it; by a caller also where PC is 0 without the mark, so that there is none to look up
  *     22  two or more functions cover it
  *     23  one function covers it, and none of its rows starts at or below it
+ *
+ * By suntimpani_ask, on the PC handed in, in this order after 1 to 8. The function landed on is the last of the entries
+ * compared that starts at or below the PC:
+ *
+ *     45  the sorted flag is not set
+ *     21  no function is landed on, or it does not cover the PC
+ *     44  the function landed on covers the PC, and breaks one of 9 to 13
+ *     23  the function landed on covers the PC, and none of its rows starts at or below it
  *
  * By caller and trace, on the registers, the stack and the mask. CFA is the value of SP in the caller, RA the return
  * address:
@@ -138,7 +147,7 @@
 #include <stdint.h>
 
 /* The version of this header and of the archive beside it. */
-#define SUNTIMPANI_VERSION "0.4.0"
+#define SUNTIMPANI_VERSION "0.4.1"
 
 #ifdef __cplusplus
 extern "C" {
@@ -184,16 +193,19 @@ typedef struct {
     suntimpani_rows rest; /* past the row; where there are no more, the same with 0 in `left`. Its `abi` is 1, 2 or 3 */
 } suntimpani_row;
 
-/* What a lookup answers. A field that the list does not name for a number is 0.
+/* What suntimpani_lookup and suntimpani_ask answer. A field that the list does not name for a number is 0.
  *
  *     0         every field but `second`
- *     1 to 15   `function`, the index that a check gives
+ *     1 to 8    none
+ *     9 to 15   `function`, the index that a check gives; never by suntimpani_ask
  *     21        `compared`
- *     22        `function`, `second`, `compared`
+ *     22        `function`, `second`, `compared`; never by suntimpani_ask
  *     23        `function`, `compared`
+ *     44        `function`, `compared`; by suntimpani_ask alone
+ *     45        none; by suntimpani_ask alone
  */
 typedef struct {
-    uint64_t number;    /* 0: found; or 1 to 15, 21, 22, 23 */
+    uint64_t number;    /* 0: found; or 1 to 15, 21, 22, 23; by suntimpani_ask 1 to 8, 21, 23, 44, 45 */
     uint64_t function;  /* the function's index; for 22 the lowest of those that cover the PC */
     uint64_t second;    /* for 22 the second lowest */
     uint64_t compared;  /* entries compared: all where the section is not sorted, at most 20 where it is */
@@ -272,6 +284,22 @@ suntimpani_row suntimpani_next_row(const uint8_t *section, size_t length, suntim
 /* The function and the row for a PC, in a section whose first byte lies at `address`. The PC is looked up as it is: ask
  * for a return address minus 1, as a caller does, where the function that called is meant. */
 suntimpani_answer suntimpani_lookup(const uint8_t *section, size_t length, uint64_t address, uint64_t pc);
+
+/* The same for one address of a huge section, which is not checked whole. Read are the header; the entries that are
+ * compared in halving the sorted function table, at most 20; and where the function landed on covers the PC its rows,
+ * all of them, up to the first that breaks a rule. The function landed on is the last of the entries compared that
+ * starts at or below the PC; where each of them starts above it, there is none.
+ *
+ * In a sorted section that suntimpani_check accepts, the answer is that of suntimpani_lookup in every field. So a
+ * sampling tool has a section checked once, leaves its bytes as they are, and asks for millions of addresses.
+ *
+ * In any other section an answer speaks of the function landed on alone. With 0 and 23 it covers the PC and breaks none
+ * of 9 to 13; with 44 it covers the PC and breaks one; with 21 it does not cover the PC, or there is none. What is
+ * wrong elsewhere is not seen: another function may cover the PC too, and after 21 one may all the same. So 9 to 15 and
+ * 22 are never given. A section without the sorted flag cannot be asked (45), only looked up in.
+ *
+ * The PC is taken as it is, as by suntimpani_lookup: ask for a return address minus 1. */
+suntimpani_answer suntimpani_ask(const uint8_t *section, size_t length, uint64_t address, uint64_t pc);
 
 /* One caller. Hand `first` in as 1 for the registers of the crash, and take the answer's registers for the next step:
  * their `first` is 0. PC itself is looked up with `first`, and PC - 1 where it is 0. The caller's PC is RA all the

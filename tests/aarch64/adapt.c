@@ -1,4 +1,4 @@
-/* So that the tests run on an AArch64 machine: the header's seven functions, before those of the proved module, which
+/* So that the tests run on an AArch64 machine: the header's eight functions, before those of the proved module, which
  * tests/aarch64/archive compiles with `proved_` before their names.
  *
  * The module was made for x86-64: a struct by value is handed to it as a pointer to one, and a result of more than two
@@ -53,6 +53,16 @@ void *proved_suntimpani_lookup(suntimpani_answer *answer, const uint8_t *section
 suntimpani_answer suntimpani_lookup(const uint8_t *section, size_t length, uint64_t address, uint64_t pc) {
     suntimpani_answer answer;
     proved_suntimpani_lookup(&answer, section, length, address, pc);
+    return answer;
+}
+
+/* Of the module: ptr suntimpani_ask(ptr, ptr, i64, i64, i64) */
+void *proved_suntimpani_ask(suntimpani_answer *answer, const uint8_t *section, size_t length, uint64_t address,
+                            uint64_t pc);
+
+suntimpani_answer suntimpani_ask(const uint8_t *section, size_t length, uint64_t address, uint64_t pc) {
+    suntimpani_answer answer;
+    proved_suntimpani_ask(&answer, section, length, address, pc);
     return answer;
 }
 

@@ -1,30 +1,11 @@
 /* The C surface, called from C: the layout of every struct, K1 to K12 of document 01 and its examples on AArch64,
- * signed return addresses under masks, the functions and rows of sections accepted and refused, every field of every
- * answer and every word of the buffers.
+ * signed return addresses under masks, the functions and rows of sections accepted and refused, what is asked of such
+ * sections without a check, every field of every answer and every word of the buffers.
  * Prints 'N comparisons, 0 differences', or each difference and ends with status 1. Compiles as C99 and as C++11. */
-#include <inttypes.h>
 #include <stddef.h>
-#include <stdio.h>
 #include <string.h>
 
-#include "suntimpani.h"
-
-static unsigned long comparisons, differences;
-
-static void compare(const char *what, const char *field, uint64_t got, uint64_t wanted) {
-    comparisons++;
-    if (got != wanted) {
-        differences++;
-        printf("%s: %s is %" PRIx64 ", not %" PRIx64 "\n", what, field, got, wanted);
-    }
-}
-
-#define FIELD(what, got, wanted, field) compare(what, #field, (uint64_t)(got).field, (uint64_t)(wanted).field)
-
-static void compare_verdicts(const char *what, suntimpani_verdict got, suntimpani_verdict wanted) {
-    FIELD(what, got, wanted, number);
-    FIELD(what, got, wanted, index);
-}
+#include "compare.h"
 
 static void compare_functions(const char *what, suntimpani_function got, suntimpani_function wanted) {
     FIELD(what, got, wanted, number);
@@ -54,22 +35,6 @@ static void compare_rows(const char *what, suntimpani_row got, suntimpani_row wa
     FIELD(what, got, wanted, fp);
     FIELD(what, got, wanted, signed_ra);
     compare_places(what, got.rest, wanted.rest);
-}
-
-static void compare_answers(const char *what, suntimpani_answer got, suntimpani_answer wanted) {
-    FIELD(what, got, wanted, number);
-    FIELD(what, got, wanted, function);
-    FIELD(what, got, wanted, second);
-    FIELD(what, got, wanted, compared);
-    FIELD(what, got, wanted, row);
-    FIELD(what, got, wanted, start);
-    FIELD(what, got, wanted, base);
-    FIELD(what, got, wanted, cfa);
-    FIELD(what, got, wanted, ra_place);
-    FIELD(what, got, wanted, ra);
-    FIELD(what, got, wanted, fp_place);
-    FIELD(what, got, wanted, fp);
-    FIELD(what, got, wanted, signed_ra);
 }
 
 static void compare_steps(const char *what, suntimpani_step got, suntimpani_step wanted) {
@@ -660,6 +625,156 @@ static void two_fields(void) {
     compare_steps("two fields, signed", suntimpani_caller(SIGNED, 67, SIGNED_STACK, 80, TWO_FIELDS, IN_LR), refused);
 }
 
+/* What is asked of S and of its variants: both rows of function 0, the row of function 1, and no function. */
+static const suntimpani_answer ENTERED = {0, 0, 0, 2, 0, 0, 1, 8, 1, -8, 0, 0, 0};
+static const suntimpani_answer FRAMED = {0, 0, 0, 2, 1, 4, 0, 16, 1, -8, 1, -16, 0};
+static const suntimpani_answer SECOND = {0, 1, 0, 1, 0, 0, 1, 8, 1, -8, 0, 0, 0};
+static const suntimpani_answer NOWHERE = {21, 0, 0, 2, 0, 0, 0, 0, 0, 0, 0, 0, 0};
+
+static void compare_asked(const char *what, const uint8_t *section, uint64_t pc, suntimpani_answer wanted) {
+    compare_answers(what, suntimpani_ask(section, 78, ADDRESS, pc), wanted);
+}
+
+static void asks_of_s(void) {
+    compare_asked("K4, asked", S, 0x401003, ENTERED);
+    compare_asked("K5, asked, 0x401004", S, 0x401004, FRAMED);
+    compare_asked("K5, asked, 0x40101f", S, 0x40101f, FRAMED);
+    compare_asked("K6, asked, 0x400fff", S, 0x400fff, NOWHERE);
+    compare_asked("K6, asked, 0x401020", S, 0x401020, NOWHERE);
+    compare_asked("K6, asked, 0x40103f", S, 0x40103f, NOWHERE);
+    compare_asked("K7, asked", S, 0x401040, SECOND);
+}
+
+/* A sorted section that is accepted, and 112 PCs from one on: each answer is that of a lookup. */
+static void compare_asks(const char *what, const uint8_t *section, size_t length, uint64_t address, uint64_t pc) {
+    const suntimpani_verdict accepted = {0, 0};
+    uint64_t on;
+    compare_verdicts(what, suntimpani_check(section, length), accepted);
+    for (on = 0; on < 112; on++) {
+        compare_answers(what, suntimpani_ask(section, length, address, pc + on),
+                        suntimpani_lookup(section, length, address, pc + on));
+    }
+}
+
+static void asks_are_lookups(void) {
+    const suntimpani_answer no_row = {23, 0, 0, 2, 0, 0, 0, 0, 0, 0, 0, 0, 0};
+    const suntimpani_answer no_function = {21, 0, 0, 0, 0, 0, 0, 0, 0, 0, 0, 0, 0};
+    const suntimpani_answer signed_row = {0, 0, 0, 1, 2, 8, 0, 32, 1, -24, 1, -32, 1};
+    const uint64_t top = 0 - (uint64_t)0x1020;
+    uint8_t late[78], repeated[78], relative[78], empty[28] = {0xe2, 0xde, 0x02, 0x01, 0x03, 0x00, 0xf8};
+    memcpy(late, S, 78);
+    memcpy(repeated, S, 78);
+    memcpy(relative, S, 78);
+    late[36] = 3;
+    late[40] = 1;
+    late[12] = 2;
+    repeated[44] = repeated[45] = 0x10;
+    relative[3] = 5;
+    compare_asks("S", S, 78, ADDRESS, 0x400ff0);
+    compare_asks("S at the top of memory", S, 78, top, 0 - (uint64_t)0x30);
+    compare_asks("a late first row", late, 78, ADDRESS, 0x400ff0);
+    compare_asked("before a late first row", late, 0x401003, no_row);
+    compare_asks("repeated blocks", repeated, 78, ADDRESS, 0x400ff0);
+    compare_asked("the second of the blocks", repeated, 0x401013, ENTERED);
+    compare_asks("relative starts", relative, 78, ADDRESS, 0x401010);
+    compare_asks("no functions", empty, 28, ADDRESS, ADDRESS);
+    compare_answers("no functions", suntimpani_ask(empty, 28, ADDRESS, ADDRESS), no_function);
+    compare_asks("AArch64", ON_AARCH64, 59, ADDRESS, 0x400ff0);
+    compare_answers("a signed row, asked", suntimpani_ask(ON_AARCH64, 59, ADDRESS, 0x40100f), signed_row);
+    compare_asks("signed rows", SIGNED, 67, ADDRESS, 0x400ff0);
+}
+
+/* A byte of S, another in its place, and a number that then is given. */
+typedef struct {
+    size_t at;
+    uint8_t byte;
+    uint64_t number;
+} change;
+
+/* Function 0 breaks one of 9 to 13: that is 44 where it is landed on and covers the PC, whichever of its rows is
+ * sought. Where it does not cover the PC, and to function 1, it makes no difference. */
+static void asks_of_damaged_functions(void) {
+    static const change damages[] = {{44, 0x40, 9},  {44, 0x80, 9},  {44, 0x03, 9},  {44, 0x10, 10}, {39, 0xff, 11},
+                                     {36, 11, 11},   {36, 10, 11},   {69, 0x00, 12}, {72, 0x00, 12}, {72, 0x64, 12},
+                                     {72, 0x06, 12}, {71, 0x00, 13}, {43, 0xff, 13}};
+    const suntimpani_answer damaged = {44, 0, 0, 2, 0, 0, 0, 0, 0, 0, 0, 0, 0};
+    suntimpani_verdict refused = {0, 0};
+    size_t number;
+    for (number = 0; number < sizeof damages / sizeof *damages; number++) {
+        const uint8_t *section = changed(damages[number].at, damages[number].byte);
+        refused.number = damages[number].number;
+        compare_verdicts("damaged, a check", suntimpani_check(section, 78), refused);
+        compare_asked("damaged, at its first byte", section, 0x401000, damaged);
+        compare_asked("damaged, at its last byte", section, 0x40101f, damaged);
+        compare_asked("damaged, before it", section, 0x400fff, NOWHERE);
+        compare_asked("damaged, behind it", section, 0x401020, NOWHERE);
+        compare_asked("damaged, in the other", section, 0x401040, SECOND);
+    }
+}
+
+/* What is wrong elsewhere is not seen: an order that 14 refuses, a sum that 15 does, and function 1 from function 0. */
+static void asks_of_one_function(void) {
+    const suntimpani_verdict order = {14, 1}, sum = {15, 0}, outside = {11, 1}, info = {12, 1};
+    const suntimpani_answer damaged = {44, 1, 0, 1, 0, 0, 0, 0, 0, 0, 0, 0, 0};
+    const suntimpani_answer elsewhere = {21, 0, 0, 1, 0, 0, 0, 0, 0, 0, 0, 0, 0};
+    compare_asked("K8, asked, in both", overlapping(1), 0x40101f, SECOND);
+    compare_asked("K8, asked, in function 0", overlapping(1), 0x40101e, FRAMED);
+    /* Function 0 lies behind function 1, from 0x1080 on, where it is not landed on. */
+    compare_verdicts("out of order, a check", suntimpani_check(changed(28, 0x80), 78), order);
+    compare_asked("out of order, in function 0", changed(28, 0x80), 0x401084, elsewhere);
+    compare_asked("out of order, in function 1", changed(28, 0x80), 0x401044, SECOND);
+    compare_asked("out of order, before both", changed(28, 0x80), 0x40103f, NOWHERE);
+    compare_verdicts("15, a check", suntimpani_check(changed(12, 4), 78), sum);
+    compare_asked("15, asked", changed(12, 4), 0x401003, ENTERED);
+    compare_verdicts("11 in function 1, a check", suntimpani_check(changed(60, 2), 78), outside);
+    compare_asked("11 in function 1, asked", changed(60, 2), 0x401044, damaged);
+    compare_asked("11 in function 1, in function 0", changed(60, 2), 0x401004, FRAMED);
+    compare_verdicts("12 in function 1, a check", suntimpani_check(changed(76, 0), 78), info);
+    compare_asked("12 in function 1, asked", changed(76, 0), 0x401044, damaged);
+    compare_asked("12 in function 1, in function 0", changed(76, 0), 0x401004, FRAMED);
+}
+
+/* An entry that is not compared, and rows that are not those of a function that is landed on and covers the PC, may
+ * hold anything. */
+static void bytes_that_are_not_read(void) {
+    uint8_t first[78], second[78], rows[78];
+    memcpy(first, S, 78);
+    memcpy(second, S, 78);
+    memcpy(rows, S, 78);
+    memset(first + 28, 0xff, 20);
+    memset(first + 68, 0xff, 7);
+    memset(second + 75, 0xff, 3);
+    memset(rows + 68, 0xff, 10);
+    compare_asked("nothing of function 0", first, 0x401040, SECOND);
+    compare_asked("no row of function 1", second, 0x401003, ENTERED);
+    compare_asked("no row of function 1, the other row", second, 0x401004, FRAMED);
+    compare_asked("no row, before both", rows, 0x400fff, NOWHERE);
+    compare_asked("no row, behind function 0", rows, 0x401020, NOWHERE);
+}
+
+/* The header's rules are tried first, then the flag, then the function landed on. */
+static void refused_asks(void) {
+    static const change headers[] = {{0, 0, 3}, {2, 1, 4}, {3, 8, 5},  {3, 9, 5},  {4, 1, 6},
+                                     {6, 0, 7}, {8, 3, 8}, {3, 0, 45}, {3, 2, 45}, {3, 4, 45}};
+    suntimpani_answer refused = {0, 0, 0, 0, 0, 0, 0, 0, 0, 0, 0, 0, 0};
+    uint8_t unsorted[78];
+    size_t number;
+    memcpy(unsorted, changed(72, 0), 78);
+    unsorted[3] = 0;
+    for (number = 0; number < sizeof headers / sizeof *headers; number++) {
+        refused.number = headers[number].number;
+        compare_asked("a header", changed(headers[number].at, headers[number].byte), 0x401003, refused);
+    }
+    refused.number = 45;
+    compare_asked("K9, asked", overlapping(0), 0x40101f, refused);
+    compare_asked("damaged and not sorted", unsorted, 0x401003, refused);
+    refused.number = 8;
+    compare_answers("77 bytes, not sorted", suntimpani_ask(unsorted, 77, ADDRESS, 0x401003), refused);
+    compare_answers("77 bytes", suntimpani_ask(S, 77, ADDRESS, 0x401003), refused);
+    refused.number = 1;
+    compare_answers("27 bytes", suntimpani_ask(S, 27, ADDRESS, 0x401003), refused);
+}
+
 /* Nothing is read or written through a pointer whose length is 0. */
 static void null_pointers(void) {
     const suntimpani_verdict is_short = {1, 0};
@@ -676,6 +791,7 @@ static void null_pointers(void) {
     compare_places("no section, the rows", suntimpani_rows_of(NULL, 0, 0), no_rows);
     compare_rows("no section, a row", suntimpani_next_row(NULL, 0, rows), no_row);
     compare_answers("no section, a lookup", suntimpani_lookup(NULL, 0, ADDRESS, 0x401003), unsound);
+    compare_answers("no section, asked", suntimpani_ask(NULL, 0, ADDRESS, 0x401003), unsound);
     compare_steps("no section, a step", suntimpani_caller(NULL, 0, NULL, 0, PROCESS, START), refused);
     compare_steps("no stack, a step", suntimpani_caller(S, 78, NULL, 0, PROCESS, START), outside);
     compare_traced("no buffer", suntimpani_trace(S, 78, STACK, 64, PROCESS, START, 2, NULL, 0), no_room);
@@ -710,7 +826,12 @@ int main(void) {
     cleared_before_it_is_asked();
     masks_on_amd64();
     two_fields();
+    asks_of_s();
+    asks_are_lookups();
+    asks_of_damaged_functions();
+    asks_of_one_function();
+    bytes_that_are_not_read();
+    refused_asks();
     null_pointers();
-    printf("%lu comparisons, %lu differences\n", comparisons, differences);
-    return differences == 0 ? 0 : 1;
+    return say_compared();
 }

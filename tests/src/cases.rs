@@ -1,10 +1,11 @@
 //! The named cases: sections in a fixed order, each with the verdict that document 01 gives it, and lookups and walks
-//! to be made in it.
+//! to be made in it. Where a lookup is made, the same is asked without a check of the whole section.
 //!
 //! A verdict stands as a literal beside the construction of its section; it is what the author reads in document 01,
 //! not what the reader answers. A name begins with the number expected, or with `ok` where the section is accepted.
 //! What is too large to be stored is in `large`.
 
+mod asked;
 mod blocks;
 mod cfa;
 mod chains;
@@ -43,9 +44,9 @@ pub use questions::Question;
 pub use recorded::{LAST_CALL_RUNS, SIGNED_SECTIONS};
 
 use crate::maker::{Function, Machine, Row, Section, SORTED};
-use crate::reader::{Header, Verdict};
+use crate::reader::{Asked, Header, Verdict};
 use crate::ADDRESS;
-use questions::{at_edges, section_refused};
+use questions::{asked_by_rule, at_edges, section_refused};
 use std::collections::{BTreeMap, BTreeSet};
 use walks::Expected;
 
@@ -67,6 +68,11 @@ impl Case {
     pub fn asked(mut self, questions: Vec<Question>) -> Case {
         self.questions.extend(questions);
         self
+    }
+
+    /// What asking without a check of the whole section answers to one of the questions.
+    pub fn asked_of(&self, question: &Question) -> Asked {
+        question.asked.unwrap_or_else(|| asked_by_rule(&self.section, self.expected, question))
     }
 
     /// The same, and these walks.
@@ -139,6 +145,8 @@ pub fn all() -> Vec<Case> {
     let mut cases: Vec<Case> = groups.into_iter().flatten().collect();
     ask_of_refused(&mut cases);
     walk_in_refused(&mut cases);
+    // Of these everything is stated.
+    cases.extend(asked::all());
     cases
 }
 
@@ -149,7 +157,7 @@ fn ask_of_refused(cases: &mut [Case]) {
         if let Verdict::Refused { number, index } = case.expected {
             if asked.insert((number, index)) {
                 let expected = section_refused(number, index);
-                let ask = |(address, pc)| Question { address, pc, expected };
+                let ask = |(address, pc)| Question { address, pc, expected, asked: None };
                 case.questions.extend([(0x40_0000, 0x40_1204), (u64::MAX, 0)].map(ask));
             }
         }
@@ -241,10 +249,13 @@ mod tests {
     #[test]
     fn every_question_is_answered_as_stated_and_by_the_definition() {
         for case in all() {
-            for &Question { address, pc, expected } in &case.questions {
+            for question @ &Question { address, pc, expected, .. } in &case.questions {
                 let asked = format!("{} at {address:x}, PC {pc:x}", case.name);
                 assert_eq!(reader::lookup(&case.section, address, pc), expected, "{asked}: the author");
                 assert_eq!(obvious::lookup(&case.section, address, pc), expected, "{asked}: the definition");
+                let expected = case.asked_of(question);
+                assert_eq!(reader::ask(&case.section, address, pc), expected, "{asked}: the author, asked alone");
+                assert_eq!(obvious::ask(&case.section, address, pc), expected, "{asked}: the definition, asked alone");
             }
         }
     }
@@ -267,6 +278,30 @@ mod tests {
             let enough = if (1..=15).contains(&number) { 2 } else { 50 };
             assert!(count >= enough, "{number} is answered {count} times");
         }
+    }
+
+    // 2 is longer than what is stored.
+    #[test]
+    fn every_answer_to_one_address_comes_often() {
+        let mut counts: BTreeMap<u64, usize> = BTreeMap::new();
+        for case in all() {
+            for question in &case.questions {
+                *counts.entry(case.asked_of(question).refusal()).or_default() += 1;
+            }
+        }
+        println!("how often each number is answered to one address (0: found): {counts:?}");
+        let numbers: Vec<u64> = counts.keys().copied().collect();
+        assert_eq!(numbers, [0, 1, 3, 4, 5, 6, 7, 8, 21, 23, 44, 45]);
+        for (number, count) in counts {
+            let enough = if (1..=8).contains(&number) { 5 } else { 100 };
+            assert!(count >= enough, "{number} is answered {count} times");
+        }
+    }
+
+    #[test]
+    fn what_is_asked_in_the_cases_for_it_is_stated() {
+        let questions: Vec<Question> = asked::all().into_iter().flat_map(|case| case.questions).collect();
+        assert!(questions.len() > 1_000 && questions.iter().all(|question| question.asked.is_some()));
     }
 
     #[test]

@@ -11,8 +11,8 @@ pub use counts::{Call, Counts, NONE};
 use crate::cases::Case;
 use crate::guarded::{Guarded, Side};
 use crate::library::{self, LIBRARY};
-use crate::reader::{self, Answer, FunctionAt, NextRow, RowsAt, Verdict};
-use crate::stream::{indexes, places, turn, Random, Turn};
+use crate::reader::{self, Answer, Asked, FunctionAt, Header, NextRow, RowsAt, Verdict};
+use crate::stream::{indexes, places, to_ask, turn, Random, ToAsk, Turn};
 use crate::walk::{lent, Walk, Walked};
 use std::cell::Cell;
 use std::fmt::Debug;
@@ -46,6 +46,8 @@ struct Expected {
     /// What is said at each place.
     at_places: Vec<NextRow>,
     answers: Vec<Answer>,
+    /// What is said to the same questions without a check of the whole section.
+    asked: Vec<Asked>,
     walked: Vec<Walked>,
 }
 
@@ -76,10 +78,12 @@ impl Comparison {
         };
         let said = self.by_reader(&turn);
         let answers: Vec<Answer> = case.questions.iter().map(|question| question.expected).collect();
+        let asked: Vec<Asked> = case.questions.iter().map(|question| case.asked_of(question)).collect();
         let walked: Vec<Walked> = case.walks.iter().map(|(_, walked)| walked.clone()).collect();
         let of_author = |what| format!("{}: {what}, the reader and the case's author", case.name);
         same(said.verdict, case.expected, || of_author("the verdict"))?;
         same(&said.answers, &answers, || of_author("the lookups"))?;
+        same(&said.asked, &asked, || of_author("what is asked"))?;
         same(&said.walked, &walked, || of_author("the walks"))?;
         self.hold_against(&turn, &said).map_err(|difference| format!("{}: {difference}", case.name))
     }
@@ -89,6 +93,7 @@ impl Comparison {
             self.functions_at(side, turn, expected)?;
             self.rows_at(side, turn, expected)?;
             self.lookups_at(side, turn, expected)?;
+            self.asks_at(side, turn, expected)?;
             self.walks_at(side, turn, expected)?;
         }
         Ok(())
@@ -104,6 +109,7 @@ impl Comparison {
             rows: turn.indexes.iter().map(|&index| rows_by_reader(section, checked.as_ref(), index)).collect(),
             at_places: turn.places.iter().map(|&place| reader::next_row(section, place)).collect(),
             answers: turn.questions.iter().map(|&(address, pc)| reader::lookup(section, address, pc)).collect(),
+            asked: turn.questions.iter().map(|&question| ask(section, question)).collect(),
             walked: turn.walks.iter().map(|walk| walk.by_reader(section)).collect(),
         }
     }
@@ -152,6 +158,48 @@ impl Comparison {
         Ok(())
     }
 
+    fn asks_at(&mut self, side: Side, turn: &Turn, expected: &Expected) -> Result<(), String> {
+        let section = self.section.longer_at(side, &turn.section, turn.length);
+        let full = expected.verdict == Verdict::Accepted && is_sorted(section);
+        for (&question, asked) in turn.questions.iter().zip(&expected.asked) {
+            compare_asked(section, question, asked, full).map_err(|said| format!("{said}, {side:?}"))?;
+            self.counts.count(Call::Ask, asked.refusal());
+        }
+        Ok(())
+    }
+
+    /// Asks a section at its places, and its twin at the first of them.
+    pub fn compare_to_ask(&mut self, to_ask: &ToAsk) -> Result<(), String> {
+        let ToAsk { section, questions, twin } = to_ask;
+        let full = reader::check(section) == Verdict::Accepted && is_sorted(section);
+        for &question in questions {
+            self.compare_on_both_sides(section, question, &ask(section, question), full)?;
+        }
+        let first = questions[0];
+        let of_twin = self.compare_on_both_sides(twin, first, &ask(section, first), false);
+        of_twin.map_err(|said| format!("{said}, as the twin of {section:x?}"))?;
+        let lookups = [section, twin].map(|section| reader::lookup(section, first.0, first.1));
+        self.counts.twins += u64::from(section != twin);
+        self.counts.told_apart += u64::from(lookups[0] != lookups[1]);
+        Ok(())
+    }
+
+    fn compare_on_both_sides(
+        &mut self,
+        section: &[u8],
+        question: (u64, u64),
+        asked: &Asked,
+        full: bool,
+    ) -> Result<(), String> {
+        for side in Side::BOTH {
+            let lent = self.section.bytes_at(side, section);
+            let compared = compare_asked(lent, question, asked, full);
+            compared.map_err(|said| format!("{said}, {side:?}, section {section:x?}"))?;
+            self.counts.count(Call::Ask, asked.refusal());
+        }
+        Ok(())
+    }
+
     fn walks_at(&mut self, side: Side, turn: &Turn, expected: &Expected) -> Result<(), String> {
         let section = self.section.longer_at(side, &turn.section, turn.length);
         for (walk, walked) in turn.walks.iter().zip(&expected.walked) {
@@ -184,6 +232,25 @@ fn rows_by_reader(section: &[u8], checked: Option<&reader::Checked>, index: u64)
     (begin, turns)
 }
 
+fn ask(section: &[u8], (address, pc): (u64, u64)) -> Asked {
+    reader::ask(section, address, pc)
+}
+
+fn is_sorted(section: &[u8]) -> bool {
+    Header::read(section).is_some_and(|header| header.flags & 1 != 0)
+}
+
+// Every field; and where the section is accepted and sorted, every field of the full answer too.
+fn compare_asked(section: &[u8], (address, pc): (u64, u64), asked: &Asked, full: bool) -> Result<(), String> {
+    let by_library = LIBRARY.ask(section, address, pc);
+    same(by_library, library::Answer::of_asked(asked), || format!("asked at {address:x}, PC {pc:x}"))?;
+    if full {
+        let lookup = LIBRARY.lookup(section, address, pc);
+        same(by_library, lookup, || format!("asked at {address:x}, PC {pc:x}, and the full answer"))?;
+    }
+    Ok(())
+}
+
 // Every field of both answers, and every word of the buffer.
 fn compare_walk(section: &[u8], stack: &[u8], words: &mut [u64], walk: &Walk, expected: &Walked) -> Result<(), String> {
     let step = LIBRARY.step(section, stack, walk.process, walk.registers);
@@ -214,7 +281,8 @@ pub fn compare_turns(comparison: &mut Comparison, seed: u64, turns: Range<u64>) 
     for number in turns {
         TURN.set(number);
         let compared = comparison.compare(&turn(seed, number));
-        compared.map_err(|difference| format!("seed {seed}, turn {number}: {difference}"))?;
+        let asked = |()| to_ask(seed, number).iter().try_for_each(|one| comparison.compare_to_ask(one));
+        compared.and_then(asked).map_err(|difference| format!("seed {seed}, turn {number}: {difference}"))?;
     }
     Ok(())
 }
@@ -262,7 +330,9 @@ fn next_part(next: &AtomicU64, parts: u64, progress: &Progress) -> Option<u64> {
     (part < parts && !progress.stopped.load(Relaxed)).then_some(part)
 }
 
-/// How many calls were compared without a difference, and the table of their numbers.
+/// How many calls were compared without a difference, how many twins were asked, and the table of the calls' numbers.
 pub fn report(counts: &Counts) -> String {
-    format!("compared: {} calls of the library, 0 differences\n{counts}", counts.calls())
+    let compared = format!("compared: {} calls of the library, 0 differences", counts.calls());
+    let twins = format!("{} sections with other bytes where none is named", counts.twins);
+    format!("{compared}\nasked alike: {twins}, {} of them looked up otherwise\n{counts}", counts.told_apart)
 }

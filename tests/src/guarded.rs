@@ -1,11 +1,14 @@
 //! Memory between two forbidden pages: a read or a write outside what lies flush against one of them ends the program.
+//! Pages between them can be forbidden too, all but those that have certain bytes.
 #![allow(unsafe_code)]
 
 use std::ffi::{c_int, c_void};
+use std::ops::Range;
 use std::sync::OnceLock;
 use std::{ptr, slice};
 
 const PROT_NONE: c_int = 0;
+const PROT_READ: c_int = 1;
 const PROT_READ_WRITE: c_int = 3;
 /// Private, of no file, and without memory set aside: a large room costs what is touched of it.
 const MAP_FLAGS: c_int = 0x4022;
@@ -20,6 +23,7 @@ extern "C" {
     fn mmap(at: *mut c_void, length: usize, allow: c_int, flags: c_int, file: c_int, offset: i64) -> *mut c_void;
     fn mprotect(at: *mut c_void, length: usize, allow: c_int) -> c_int;
     fn munmap(at: *mut c_void, length: usize) -> c_int;
+    fn getpagesize() -> c_int;
     fn signal(number: c_int, handler: extern "C" fn(c_int)) -> *mut c_void;
     fn _exit(status: c_int) -> !;
 }
@@ -121,6 +125,68 @@ impl Guarded {
             slice::from_raw_parts_mut(to, words.len())
         }
     }
+}
+
+/// Bytes of which only some pages can be read; the others are forbidden until this is dropped.
+pub struct Sparse<'a> {
+    room: &'a mut Guarded,
+    place: usize,
+    length: usize,
+    /// How many pages of the system's size can be read.
+    pub pages: usize,
+}
+
+impl Guarded {
+    /// A copy that lies flush against the forbidden page of a side, of which every page is forbidden that has none of
+    /// the bytes at these places.
+    ///
+    /// # Panics
+    /// Where there is no room for it, or the system does not forbid the pages.
+    pub fn sparse_at(&mut self, side: Side, bytes: &[u8], readable: &[Range<usize>]) -> Sparse<'_> {
+        self.bytes_at(side, bytes);
+        let (place, length) = (side.place(self.room, bytes.len()), bytes.len());
+        let page = page_size();
+        let mut is_read = vec![false; self.room / page];
+        for places in readable.iter().filter(|places| !places.is_empty()) {
+            assert!(places.end <= length, "{places:?} are not all inside");
+            is_read[(place + places.start) / page..=(place + places.end - 1) / page].fill(true);
+        }
+        let pages = is_read.iter().filter(|&&is_read| is_read).count();
+        let mut at = 0;
+        for run in is_read.chunk_by(|a, b| a == b) {
+            self.allow(at * page, run.len() * page, if run[0] { PROT_READ } else { PROT_NONE });
+            at += run.len();
+        }
+        Sparse { room: self, place, length, pages }
+    }
+
+    // From a place of the room on, both being multiples of the page size.
+    fn allow(&mut self, from: usize, length: usize, allow: c_int) {
+        // SAFETY: the pages are this mapping's own, and nothing is lent of it while self is borrowed.
+        let done = unsafe { mprotect(self.base.add(PAGE + from).cast(), length, allow) };
+        assert_eq!(done, 0, "{length} bytes from {from} on cannot be made what they should be");
+    }
+}
+
+impl Sparse<'_> {
+    /// The bytes; who reads one of a forbidden page ends the program.
+    pub fn bytes(&self) -> &[u8] {
+        // SAFETY: the copy lies inside the room, which stays mapped; what is forbidden of it stops a reader, and
+        // nothing writes to it.
+        unsafe { slice::from_raw_parts(self.room.base.add(PAGE + self.place), self.length) }
+    }
+}
+
+impl Drop for Sparse<'_> {
+    fn drop(&mut self) {
+        self.room.allow(0, self.room.room, PROT_READ_WRITE);
+    }
+}
+
+/// The system's, which may be smaller than ours.
+pub fn page_size() -> usize {
+    // SAFETY: the call has no conditions.
+    unsafe { getpagesize() as usize }
 }
 
 impl Drop for Guarded {

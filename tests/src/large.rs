@@ -85,6 +85,7 @@ fn questions(verdict: Verdict) -> Vec<Question> {
             outcome: outcome(function, number),
             compared: if verdict == Verdict::Accepted { halvings_of(LAST + 1, begun) } else { 0 },
         },
+        asked: None,
     };
     // So many functions that have begun, o in the last of them, and its row.
     let places = [
@@ -125,6 +126,26 @@ pub fn functions_of_four_rows(count: usize) -> Section {
     let framed = Row { sp_base: false, ..Row::new(4, 0, &[16, -16]) };
     let rows = [Row::new(0, 0, &[8]), Row::new(1, 0, &[16, -16]), framed, Row::new(31, 0, &[8])];
     section.functions = (0..count).map(|index| Function::new(start_of(index), 32, 0, rows.to_vec())).collect();
+    section
+}
+
+/// How many rows each function of `functions_of_many_rows` has, and how far behind one function the next begins.
+pub const ROWS_OF_MANY: u32 = 1_000;
+pub const STEP_OF_MANY: u32 = 4_096;
+
+/// 250 functions with rows of 13 bytes and 53,000 unused bytes before those of each, in a sorted AMD64 section of
+/// 16,777,216 bytes.
+pub fn functions_of_many_rows() -> Section {
+    let row = |number: u32| Row::new(ROW_STEP * number, 2, &[8 + (number % 100) as i32, -16]);
+    let rows: Vec<Row> = (0..ROWS_OF_MANY).map(row).collect();
+    let mut section = Section::new(Machine::Amd64);
+    section.flags = SORTED;
+    for index in 0..250 {
+        let mut function = Function::new(i64::from(STEP_OF_MANY * index), ROW_STEP * ROWS_OF_MANY, 2, rows.clone());
+        function.gap = vec![0; 53_000];
+        section.functions.push(function);
+    }
+    section.tail = vec![0; LIMIT - 28 - 250 * (20 + 13_000 + 53_000)];
     section
 }
 
@@ -209,7 +230,7 @@ pub fn sum_of_2_32() -> Case {
 #[cfg(test)]
 mod tests {
     use super::*;
-    use crate::reader::{check, functions, lookup};
+    use crate::reader::{ask, check, functions, lookup};
 
     #[test]
     fn sections_at_the_limit_are_judged_as_stated() {
@@ -217,8 +238,9 @@ mod tests {
             let case = at_the_limit(number);
             assert_eq!(case.section.len(), AT_THE_LIMIT[number as usize].1, "{}", case.name);
             assert_eq!(check(&case.section), case.expected, "{}", case.name);
-            for Question { address, pc, expected } in &case.questions {
+            for question @ Question { address, pc, expected, .. } in &case.questions {
                 assert_eq!(lookup(&case.section, *address, *pc), *expected, "{}, PC {pc:x}", case.name);
+                assert_eq!(ask(&case.section, *address, *pc), case.asked_of(question), "{}, PC {pc:x}", case.name);
             }
             for (walk, expected) in &case.walks {
                 assert_eq!(walk.by_reader(&case.section), *expected, "{}", case.name);
@@ -246,6 +268,13 @@ mod tests {
         let section = functions_of_four_rows(1_000).bytes();
         assert_eq!((section.len(), check(&section)), (28 + 34 * 1_000, Verdict::Accepted));
         assert!(functions(&section).iter().all(|function| function.rows.len() == 4));
+    }
+
+    #[test]
+    fn the_section_of_many_rows_is_sound_and_has_the_most_bytes() {
+        let section = functions_of_many_rows().bytes();
+        assert_eq!((section.len(), check(&section)), (LIMIT, Verdict::Accepted));
+        assert!(functions(&section).iter().all(|function| function.rows.len() == ROWS_OF_MANY as usize));
     }
 
     #[test]

@@ -1,12 +1,13 @@
 //! The independent reader of `.sframe` sections, what it is tried on, and how the library is held against it.
 //!
-//! `reader` is written from document 01 alone, and `obvious` makes its lookups, steps and traces once more, slowly.
-//! `maker` builds sections the other way round, from a description to bytes, and shares nothing with it. `walk` is what
-//! is lent to a step and a trace, and `laid` lays long stacks for them. `cases` is the fixed list of named sections,
-//! questions and walks, `pack` the form in which they are stored, `large` the sections too big to store, `stream` an
-//! endless seeded source of more. `comparison` holds the proved library, called by `library`, against the reader, all
-//! memory being `guarded`. `measured`, `timing`, `painted` and `libsframe` measure both. `words` is what the program
-//! `sframe` prints, and `program` runs it. `dump` is what other tools printed of a section.
+//! `reader` is written from document 01 alone, and `obvious` makes its lookups, steps and traces once more, slowly, and
+//! asks single addresses as it does. `maker` builds sections the other way round, from a description to bytes, and
+//! shares nothing with it. `walk` is what is lent to a step and a trace, and `laid` lays long stacks for them. `cases`
+//! is the fixed list of named sections, questions and walks, `pack` the form in which they are stored, `large` the
+//! sections too big to store, `stream` an endless seeded source of more. `comparison` holds the proved library, called
+//! by `library`, against the reader, all memory being `guarded`. `measured`, `timing`, `painted` and `libsframe` measure
+//! both. `words` is what the program `sframe` prints, and `program` runs it. `dump` is what other tools printed of a
+//! section.
 #![deny(unsafe_code)]
 
 pub mod cases;

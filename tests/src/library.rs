@@ -3,7 +3,7 @@
 
 pub mod empty;
 
-use crate::reader::{self, Base, Ending, Outcome, Place};
+use crate::reader::{self, AskedOutcome, Base, Ending, Outcome, Place};
 
 /// What `suntimpani_check` answers; number 0 is accepted.
 #[repr(C)]
@@ -54,12 +54,13 @@ pub struct Row {
     pub rest: Rows,
 }
 
-/// What `suntimpani_lookup` answers: document 01's number, 0 for found, and 0 in every field that means nothing then.
+/// What `suntimpani_lookup` and `suntimpani_ask` answer: the number, 0 for found, and 0 in every field that means
+/// nothing then.
 #[repr(C)]
 #[derive(Clone, Copy, Debug, Default, PartialEq, Eq)]
 pub struct Answer {
     pub number: u64,
-    /// The function's index; the entry's for 1 to 15, the lower of two for 22.
+    /// The function's index; a lookup's for 1 to 15 is the entry's, for 22 the lower of two.
     pub function: u64,
     /// The other of two for 22.
     pub second: u64,
@@ -121,6 +122,7 @@ extern "C" {
     fn suntimpani_rows_of(section: *const u8, length: usize, index: u64) -> Rows;
     fn suntimpani_next_row(section: *const u8, length: usize, rows: Rows) -> Row;
     fn suntimpani_lookup(section: *const u8, length: usize, address: u64, pc: u64) -> Answer;
+    fn suntimpani_ask(section: *const u8, length: usize, address: u64, pc: u64) -> Answer;
     fn suntimpani_caller(
         section: *const u8,
         length: usize,
@@ -142,7 +144,7 @@ extern "C" {
     ) -> Traced;
 }
 
-/// Seven calls of one form, as a program in C has them.
+/// Eight calls of one form, as a program in C has them.
 #[derive(Clone, Copy)]
 pub struct Calls {
     check: unsafe extern "C" fn(*const u8, usize) -> Verdict,
@@ -150,6 +152,7 @@ pub struct Calls {
     rows_of: unsafe extern "C" fn(*const u8, usize, u64) -> Rows,
     next_row: unsafe extern "C" fn(*const u8, usize, Rows) -> Row,
     lookup: unsafe extern "C" fn(*const u8, usize, u64, u64) -> Answer,
+    ask: unsafe extern "C" fn(*const u8, usize, u64, u64) -> Answer,
     caller: unsafe extern "C" fn(*const u8, usize, *const u8, usize, Process, Registers) -> Step,
     trace: unsafe extern "C" fn(*const u8, usize, *const u8, usize, Process, Registers, u64, *mut u64, usize) -> Traced,
 }
@@ -161,6 +164,7 @@ pub const LIBRARY: Calls = Calls {
     rows_of: suntimpani_rows_of,
     next_row: suntimpani_next_row,
     lookup: suntimpani_lookup,
+    ask: suntimpani_ask,
     caller: suntimpani_caller,
     trace: suntimpani_trace,
 };
@@ -203,6 +207,13 @@ impl Calls {
     pub fn lookup(&self, section: &[u8], address: u64, pc: u64) -> Answer {
         // SAFETY: the pointer and the length are those of a slice, which is lent for the length of the call.
         unsafe { (self.lookup)(section.as_ptr(), section.len(), address, pc) }
+    }
+
+    /// The answer without a check of the whole section, every field as it came.
+    #[inline]
+    pub fn ask(&self, section: &[u8], address: u64, pc: u64) -> Answer {
+        // SAFETY: the pointer and the length are those of a slice, which is lent for the length of the call.
+        unsafe { (self.ask)(section.as_ptr(), section.len(), address, pc) }
     }
 
     /// The step, every field as it came.
@@ -306,6 +317,16 @@ impl Answer {
             Outcome::NoFunction => bare,
             Outcome::Disputed { first, second } => Answer { function: first, second, ..bare },
             Outcome::NoRow { function } => Answer { function, ..bare },
+        }
+    }
+
+    /// The same of what the reader answers when it is asked without a check of the whole section.
+    pub fn of_asked(asked: &reader::Asked) -> Answer {
+        let bare = Answer { number: asked.refusal(), compared: asked.compared, ..Answer::default() };
+        match asked.outcome {
+            AskedOutcome::Found { function, number, row } => Answer { function, row: number, ..bare.with(&row) },
+            AskedOutcome::NoRow { function } | AskedOutcome::Damaged { function } => Answer { function, ..bare },
+            AskedOutcome::Unsound(_) | AskedOutcome::Unsorted | AskedOutcome::NoFunction => bare,
         }
     }
 

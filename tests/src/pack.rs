@@ -8,10 +8,12 @@
 //! follow each other with nothing between, and so do walks.
 //!
 //! What is expected is text: a line a case, below it a line a question, then for each walk a line of what is lent, one
-//! of the step's answer, one of the trace's, and one a frame. A mask is told only where it is not 0.
+//! of the step's answer, one of the trace's, and one a frame. A mask is told only where it is not 0. Behind all cases
+//! comes what is asked without a check of the whole section: a line for each case that has questions, and below it a
+//! line a question.
 #![forbid(unsafe_code)]
 
-use crate::reader::{Answer, Ending, Process, Registers, Step, Traced, Verdict};
+use crate::reader::{Answer, Asked, Ending, Process, Registers, Step, Traced, Verdict};
 use crate::walk::{Walk, Walked};
 
 const NAME_BYTES: usize = 38;
@@ -22,7 +24,7 @@ const WALK_BYTES: usize = 88;
 pub const LIMIT: usize = 2_000_000;
 
 /// The text of what is expected is smaller than this many bytes.
-pub const EXPECTED_LIMIT: usize = 1_200_000;
+pub const EXPECTED_LIMIT: usize = 2_000_000;
 
 /// A walk's buffer has at most so many words.
 pub const MOST_WORDS: usize = 1_000;
@@ -74,6 +76,16 @@ pub fn answer_line(address: u64, pc: u64, answer: &Answer) -> String {
     format!("  {address:016x} {pc:016x} {answer}\n")
 }
 
+/// The line of a case above what is asked in it without a check of the whole section.
+pub fn asked_head(name: &str) -> String {
+    format!("{name:<NAME_BYTES$} asked\n")
+}
+
+/// What is expected of a question that is asked so, as a line of text.
+pub fn asked_line(address: u64, pc: u64, asked: &Asked) -> String {
+    format!("  {address:016x} {pc:016x} {asked}\n")
+}
+
 /// What is expected of a walk, as lines of text.
 pub fn walk_lines(walk: &Walk, walked: &Walked) -> String {
     let (from, process, bytes) = (registers(&walk.registers), process(&walk.process), walk.stack.len());
@@ -119,7 +131,7 @@ fn traced(traced: &Traced) -> String {
 #[cfg(test)]
 mod tests {
     use super::*;
-    use crate::reader::{Base, Outcome, Place, Row};
+    use crate::reader::{AskedOutcome, Base, Outcome, Place, Row};
 
     #[test]
     fn a_case_is_its_head_its_bytes_and_its_questions() {
@@ -233,6 +245,28 @@ mod tests {
         ];
         for (outcome, text) in expected {
             let line = answer_line(0x40_0000, 0xffff_ffff_ffff_fff0, &Answer { outcome, compared: 3 });
+            assert_eq!(line, format!("  0000000000400000 fffffffffffffff0 {text}\n"));
+        }
+    }
+
+    #[test]
+    fn a_line_of_what_is_asked_has_a_lookups_form() {
+        assert_eq!(asked_head("K8"), "K8                                     asked\n");
+        let (base, ra) = (Base::Sp, Place::AtOffset(-8));
+        let row = Row { start: 0, base, cfa_offset: 8, ra, fp: Place::Register, signed: false };
+        let expected = [
+            (
+                AskedOutcome::Found { function: 7, number: 1, row },
+                "found function 7 row 1 start 0 cfa sp+8 ra cfa-8 fp register signed 0 compared 3",
+            ),
+            (AskedOutcome::Unsound(8), "refused 8 compared 3"),
+            (AskedOutcome::NoFunction, "refused 21 compared 3"),
+            (AskedOutcome::NoRow { function: 5 }, "refused 23 at 5 compared 3"),
+            (AskedOutcome::Damaged { function: 6 }, "refused 44 at 6 compared 3"),
+            (AskedOutcome::Unsorted, "refused 45 compared 3"),
+        ];
+        for (outcome, text) in expected {
+            let line = asked_line(0x40_0000, 0xffff_ffff_ffff_fff0, &Asked { outcome, compared: 3 });
             assert_eq!(line, format!("  0000000000400000 fffffffffffffff0 {text}\n"));
         }
     }

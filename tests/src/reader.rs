@@ -1,20 +1,25 @@
 //! The independent reader: the section checks, the meaning of an accepted section, lookups in it, steps and traces by
-//! it, and its listing, written from document 01 alone; the listing from the words in which it was asked for.
+//! it, its listing, and one address asked of a section that is not checked. It is written from document 01 alone, the
+//! last two from the words in which they were asked for.
 //!
 //! It is what the proved crates are compared with, so it shares nothing with them. Every sum is of i64 or u64 and exact:
 //! a start is an i32 plus a position below 2^24 + 1, a size is below 2^32, and row counts add up to less than 2^52.
 #![forbid(unsafe_code)]
 
+mod ask;
 mod caller;
 mod decoding;
 mod listing;
 mod lookup;
+mod named;
 mod rows;
 mod trace;
 
+pub use ask::{ask, Asked, AskedOutcome};
 pub use caller::{step, Process, Registers, Step};
 pub use listing::{function_at, listing, FunctionAt, Line};
 pub use lookup::{lookup, Answer, Checked, Outcome};
+pub use named::named_bytes;
 pub use rows::{next_row, rows_of, NextRow, RowsAt};
 use std::fmt;
 pub use trace::{trace, Ending, Traced};
@@ -179,9 +184,7 @@ fn try_header(section: &[u8]) -> Result<Parts<'_>, u64> {
 
 // Rules 9 to 14 of one entry; the end before it is that of the entry before it, if any.
 fn try_entry(parts: &Parts, entry: &Entry, end_before: Option<i64>) -> Result<(), u64> {
-    rule(9, entry.info & 0xc0 != 0 || entry.row_type() > 2)?;
-    rule(10, entry.is_repeated() && entry.repeat == 0)?;
-    rule(11, entry.first_row as usize > parts.area.len())?;
+    try_fields(parts, entry)?;
     let width = entry.start_width();
     let mut place = entry.first_row as usize;
     let mut start_before = None;
@@ -193,6 +196,14 @@ fn try_entry(parts: &Parts, entry: &Entry, end_before: Option<i64>) -> Result<()
     }
     let too_low = end_before.is_some_and(|end| entry.start < end);
     rule(14, parts.sorted && too_low)
+}
+
+// Of rules 9 to 13 what the entry's own fields decide, no row being looked at.
+#[inline(always)]
+fn try_fields(parts: &Parts, entry: &Entry) -> Result<(), u64> {
+    rule(9, entry.info & 0xc0 != 0 || entry.row_type() > 2)?;
+    rule(10, entry.is_repeated() && entry.repeat == 0)?;
+    rule(11, entry.first_row as usize > parts.area.len())
 }
 
 /// The order of the bytes of every number in a section.

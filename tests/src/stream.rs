@@ -1,16 +1,18 @@
-//! An endless source of sections, sound and damaged, the same for the same seed, and of what is asked of them: functions
-//! by their indexes, rows, lookups and walks.
+//! An endless source of sections, sound and damaged, the same for the same seed, and of what is asked of them:
+//! functions by their indexes, rows, lookups and walks; and of smaller ones, which are asked single addresses.
 //!
 //! A section begins as a random sound description. Most are then damaged: a field of the description, bytes of what
 //! was built from it, or its length. Damage likes the edges: one below, exactly at, one above.
 #![forbid(unsafe_code)]
 
+mod asked;
 mod indexes;
 mod lookups;
 mod places;
 mod turns;
 mod walks;
 
+pub use asked::{to_ask, ToAsk, ASKED_OF_A_TURN};
 pub use indexes::indexes;
 pub use lookups::questions;
 pub use places::places;
@@ -88,8 +90,14 @@ fn damaged(random: &mut Random, mut section: Section, kind: u64) -> Vec<u8> {
 /// A random sound description.
 pub fn sound(random: &mut Random) -> Section {
     let machine = random.pick(&Machine::ALL);
+    let flags = random.below(8) as u8;
+    sound_of(random, machine, flags)
+}
+
+// The same of a machine and with these flags.
+fn sound_of(random: &mut Random, machine: Machine, flags: u8) -> Section {
     let mut section = Section::new(machine);
-    section.flags = random.below(8) as u8;
+    section.flags = flags;
     if random.once_in(4) {
         let length = random.pick(&[1, 4, 255]);
         section.auxiliary = random.bytes(length);

@@ -32,7 +32,8 @@ impl Times {
     }
 }
 
-fn median(mut numbers: Vec<f64>) -> f64 {
+/// The one in the middle, the higher of two.
+pub fn median(mut numbers: Vec<f64>) -> f64 {
     numbers.sort_by(f64::total_cmp);
     numbers[numbers.len() / 2]
 }
@@ -42,11 +43,22 @@ pub type Way<'a> = &'a mut dyn FnMut();
 
 /// The times of each way over so many rounds; each round begins with another of them.
 pub fn turn_about(rounds: usize, ways: &mut [Way]) -> Vec<Times> {
+    turn_about_behind(rounds, ways, |_| ())
+}
+
+/// The same where each way is gone once, untimed, before each of its samples, so that it meets the caches as it leaves
+/// them itself and not as the way before it does.
+pub fn turn_about_again(rounds: usize, ways: &mut [Way]) -> Vec<Times> {
+    turn_about_behind(rounds, ways, |way| way())
+}
+
+fn turn_about_behind(rounds: usize, ways: &mut [Way], before: fn(Way)) -> Vec<Times> {
     let calls = calls_of_a_sample(ways[0]);
     let mut times = vec![Times(Vec::new()); ways.len()];
     for turn in 0..rounds * ways.len() {
         let (round, place) = (turn / ways.len(), turn % ways.len());
         let way = (round + place) % ways.len();
+        before(ways[way]);
         times[way].0.push(time_of(ways[way], calls).as_nanos() as f64 / f64::from(calls));
     }
     times
@@ -83,24 +95,22 @@ mod tests {
 
     #[test]
     fn every_way_is_timed_in_every_round() {
-        let (mut ones, mut twos) = (0_u64, 0_u64);
-        let wait = || {
+        // The first way is called once more, to see how many calls a sample takes.
+        assert_eq!(calls_of_two_ways(turn_about), [4, 3]);
+        assert_eq!(calls_of_two_ways(turn_about_again), [7, 6]);
+    }
+
+    // How often each of two ways is gone in three rounds, the first being as long as a sample.
+    fn calls_of_two_ways(turn_about: fn(usize, &mut [Way]) -> Vec<Times>) -> [u64; 2] {
+        let (mut ones, mut twos) = (0, 0);
+        let mut long = || {
+            ones += 1;
             let begin = Instant::now();
             while begin.elapsed() < SAMPLE {}
         };
-        let times = turn_about(
-            3,
-            &mut [
-                &mut || {
-                    ones += 1;
-                    wait();
-                },
-                &mut || twos += 1,
-            ],
-        );
+        let times = turn_about(3, &mut [&mut long, &mut || twos += 1]);
         assert_eq!(times.iter().map(|times| times.0.len()).collect::<Vec<_>>(), [3, 3]);
-        // The first way is called once more, to see how many calls a sample takes.
-        assert_eq!((ones, twos), (4, 3));
         assert!(times[0].median() >= 2e6 && times[1].median() < 2e6);
+        [ones, twos]
     }
 }

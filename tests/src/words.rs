@@ -5,7 +5,7 @@ mod listing;
 
 pub use listing::{listing, listing_of};
 
-use crate::reader::{Answer, Base, Ending, Header, Outcome, Place, Registers, Row, Step, Verdict};
+use crate::reader::{Answer, Asked, AskedOutcome, Base, Ending, Header, Outcome, Place, Registers, Row, Step, Verdict};
 use crate::walk::Walked;
 
 /// The most bytes of a section that the program reads.
@@ -15,10 +15,11 @@ pub const MOST_SECTION_BYTES: usize = 6_291_456;
 pub const MOST_STACK_BYTES: usize = 1_048_576;
 
 /// Each command, and what it takes; what stands in brackets may be left out.
-pub const COMMANDS: [(&str, &str); 7] = [
+pub const COMMANDS: [(&str, &str); 8] = [
     ("check", "FILE"),
     ("list", "FILE [INDEX]"),
     ("lookup", "FILE ADDRESS PC"),
+    ("ask", "FILE ADDRESS PC"),
     ("caller", "FILE ADDRESS STACK STACK_ADDRESS PC SP FP LR FIRST [MASK]"),
     ("trace", "FILE ADDRESS STACK STACK_ADDRESS PC SP FP LR LIMIT [MASK]"),
     ("help", ""),
@@ -28,7 +29,7 @@ pub const COMMANDS: [(&str, &str); 7] = [
 /// The arguments that are counts: they are decimal, and all other numbers hexadecimal.
 pub const DECIMAL: [&str; 2] = ["INDEX", "LIMIT"];
 
-const WORDS: [(u64, &str); 28] = [
+const WORDS: [(u64, &str); 30] = [
     (1, "fewer than 28 bytes"),
     (2, "more than 16,777,216 bytes"),
     (3, "the magic is neither byte order's"),
@@ -57,15 +58,17 @@ const WORDS: [(u64, &str); 28] = [
     (41, "the stack window ends above 2^64"),
     (42, "the limit is above 256"),
     (43, "the buffer has fewer than 3 words for each frame of the limit"),
+    (44, "the function landed on covers the PC and breaks one of the rules 9 to 13"),
+    (45, "the sorted flag is not set, and only a sorted section can be asked"),
 ];
 
 /// The words of a number.
 ///
 /// # Panics
-/// Where document 01 has no such number.
+/// Where there is no such number.
 pub fn words(number: u64) -> &'static str {
     let found = WORDS.iter().find(|(known, _)| *known == number);
-    found.unwrap_or_else(|| panic!("{number} is no number of document 01")).1
+    found.unwrap_or_else(|| panic!("{number} is no number of a refusal or an ending")).1
 }
 
 fn refused(number: u64) -> String {
@@ -119,6 +122,21 @@ pub fn answer(answer: &Answer) -> String {
         Outcome::NoRow { function } => format!("{}, in function {function}\n", refused(23)),
     };
     format!("{said}entries compared: {}\n", answer.compared)
+}
+
+/// What `ask` prints.
+pub fn asked(asked: &Asked) -> String {
+    let number = asked.refusal();
+    let said = match asked.outcome {
+        AskedOutcome::Found { function, number, row } => found(function, number, &row),
+        AskedOutcome::Unsound(_) | AskedOutcome::Unsorted => format!("{}\n", refused(number)),
+        // Other words than a lookup's: other functions may cover the PC.
+        AskedOutcome::NoFunction => "refused: 21, no function that covers the PC was landed on\n".to_string(),
+        AskedOutcome::NoRow { function } | AskedOutcome::Damaged { function } => {
+            format!("{}, in function {function}\n", refused(number))
+        }
+    };
+    format!("{said}entries compared: {}\n", asked.compared)
 }
 
 fn found(function: u64, number: u64, row: &Row) -> String {
@@ -243,7 +261,7 @@ mod tests {
     #[test]
     fn every_number_has_words_and_no_other() {
         let known: Vec<u64> = WORDS.iter().map(|(number, _)| *number).collect();
-        let numbers: Vec<u64> = (1..=15).chain(21..=28).chain([30, 31]).chain(41..=43).collect();
+        let numbers: Vec<u64> = (1..=15).chain(21..=28).chain([30, 31]).chain(41..=45).collect();
         assert_eq!(known, numbers);
     }
 
@@ -290,6 +308,25 @@ mod tests {
     }
 
     #[test]
+    fn what_is_asked_is_told_as_a_lookup_is() {
+        let told = |outcome, compared| asked(&Asked { outcome, compared });
+        for pc in [0x40_1003, 0x40_1004, 0x40_1040] {
+            assert_eq!(asked(&reader::ask(&S, 0x40_0000, pc)), answer(&reader::lookup(&S, 0x40_0000, pc)));
+        }
+        let no_row = answer(&Answer { outcome: Outcome::NoRow { function: 5 }, compared: 4 });
+        assert_eq!(told(AskedOutcome::NoRow { function: 5 }, 4), no_row);
+        let short = "refused: 1, fewer than 28 bytes\nentries compared: 0\n";
+        assert_eq!(told(AskedOutcome::Unsound(1), 0), short);
+        let none = "refused: 21, no function that covers the PC was landed on\nentries compared: 2\n";
+        assert_eq!(told(AskedOutcome::NoFunction, 2), none);
+        let damaged = "the function landed on covers the PC and breaks one of the rules 9 to 13, in function 3";
+        let damaged = format!("refused: 44, {damaged}\nentries compared: 12\n");
+        assert_eq!(told(AskedOutcome::Damaged { function: 3 }, 12), damaged);
+        let unsorted = "the sorted flag is not set, and only a sorted section can be asked";
+        assert_eq!(told(AskedOutcome::Unsorted, 0), format!("refused: 45, {unsorted}\nentries compared: 0\n"));
+    }
+
+    #[test]
     fn callers_and_traces_are_told_as_columns() {
         let cases = all();
         let (k10, k12) = (&cases[0].walks[0].1, &cases[0].walks[2].1);
@@ -307,6 +344,7 @@ mod tests {
     #[test]
     fn wrong_arguments_are_told_by_their_names() {
         assert_eq!(wrong::count("list"), "sframe: 'list' takes FILE [INDEX]\n");
+        assert_eq!(wrong::count("ask"), "sframe: 'ask' takes FILE ADDRESS PC\n");
         assert_eq!(wrong::count("help"), "sframe: 'help' takes no arguments\n");
         let walk = "FILE ADDRESS STACK STACK_ADDRESS PC SP FP LR";
         assert_eq!(wrong::count("caller"), format!("sframe: 'caller' takes {walk} FIRST [MASK]\n"));

@@ -1,6 +1,6 @@
-//! Holds the library against the independent reader, checks, functions by their indexes, rows, lookups, steps and
-//! traces: the stored cases, the large ones, and a seeded stream; and tries the forbidden pages that everything lent
-//! lies against.
+//! Holds the library against the independent reader, checks, functions by their indexes, rows, lookups, single
+//! addresses asked, steps and traces: the stored cases, the large ones, and a seeded stream; and tries the forbidden
+//! pages that everything lent lies against.
 
 use std::os::unix::process::ExitStatusExt;
 use std::process::Command;
@@ -8,10 +8,15 @@ use suntimpani_tests::cases;
 use suntimpani_tests::comparison::{compare_turns, in_parts, report, Comparison, Progress};
 use suntimpani_tests::guarded::{Guarded, Side};
 use suntimpani_tests::large;
+use suntimpani_tests::stream::ASKED_OF_A_TURN;
 
 const SEED: u64 = 20_260_101;
 const TURNS: u64 = 300_000;
 const TURNS_OF_A_PART: u64 = 1_000;
+
+/// At least so many sections are asked single addresses, and so many of their twins are told apart by a lookup.
+const ASKED: u64 = 1_000_000;
+const TOLD_APART: u64 = 100_000;
 
 /// Each number that a call can answer with comes at least so often.
 const ENOUGH: u64 = 100;
@@ -32,6 +37,7 @@ fn every_call_is_compared() {
     let counts = in_parts(parts, &Progress::default(), compare).unwrap_or_else(|difference| panic!("{difference}"));
     println!("{}", report(&counts));
     assert!(counts.calls() >= 200_000);
+    assert!(TURNS * ASKED_OF_A_TURN >= ASKED && counts.told_apart >= TOLD_APART, "{} told apart", counts.told_apart);
     assert_eq!(counts.lacking(ENOUGH), Vec::<String>::new(), "come less than {ENOUGH} times, or never may");
 }
 

@@ -1,6 +1,6 @@
 //! That nothing is allocated and that there is no state, read off the static library itself, by `nm` and `size` of the
-//! system's binutils. It has the seven functions of the header and no other name to be linked to; it needs no function of
-//! anyone, so it can call no allocator; and it has no byte that could be written to.
+//! system's binutils. It has the eight functions of the header and no other name to be linked to; it needs no function
+//! of anyone, so it can call no allocator; and it has no byte that could be written to.
 #![cfg(feature = "library")]
 
 use std::env;
@@ -37,11 +37,11 @@ fn written_to(text: &str) -> u64 {
 }
 
 #[test]
-fn it_exports_the_seven_functions_alone() {
+fn it_exports_the_eight_functions_alone() {
     let text = said("nm", &["--format=posix", "--defined-only", "--extern-only"]);
     let mut exported = names(&text);
     exported.sort_unstable();
-    let calls = ["caller", "check", "function_at", "lookup", "next_row", "rows_of", "trace"];
+    let calls = ["ask", "caller", "check", "function_at", "lookup", "next_row", "rows_of", "trace"];
     let of_header = calls.map(|call| format!("suntimpani_{call}"));
     assert_eq!(exported, of_header);
 }

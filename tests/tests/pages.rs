@@ -347,6 +347,7 @@ fn givers() -> BTreeMap<u64, BTreeSet<&'static str>> {
         gives("function", function_at(&case.section, 0).number);
         for asked in &case.questions {
             gives("lookup", asked.expected.refusal());
+            gives("ask", case.asked_of(asked).refusal());
         }
         for (_, walked) in &case.walks {
             gives("step", walked.step.number());

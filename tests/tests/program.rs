@@ -36,6 +36,12 @@ fn lookup(folder: &Folder, section: &[u8], address: u64, pc: u64) {
     folder.answers(&["lookup", "section", &given(address), &given(pc)], &expected);
 }
 
+fn ask(folder: &Folder, section: &[u8], address: u64, pc: u64) {
+    folder.put("section", section);
+    let expected = words::asked(&reader::ask(section, address, pc));
+    folder.answers(&["ask", "section", &given(address), &given(pc)], &expected);
+}
+
 // A caller and a trace; a mask of 0 is left out. The program lends its own buffer, which has room for every limit; a
 // limit of more digits than it takes would be too high anyway.
 fn walk(folder: &Folder, section: &[u8], walk: &Walk) {
@@ -89,6 +95,60 @@ fn the_lookups_of_document_01_are_answered() {
     ];
     for (pc, expected) in answers {
         folder.answers(&["lookup", "S", "400000", pc], &expected);
+    }
+}
+
+// By hand too: S, S without its flag, cut short, and with a second row of the first function that starts as the first.
+#[test]
+fn one_address_is_asked_of_s() {
+    let folder = Folder::of("asked_of_s");
+    let (mut unsorted, mut twice) = (S, S);
+    (unsorted[3], twice[71]) = (0, 0);
+    for (name, section) in [("S", &S[..]), ("unsorted", &unsorted), ("short", &S[..27]), ("twice", &twice)] {
+        folder.put(name, section);
+    }
+    let row = "row 0, which starts at 0\nCFA is SP + 8\nRA is at CFA - 8\nFP is unchanged\nentries compared: ";
+    let none = "refused: 21, no function that covers the PC was landed on\nentries compared: 2\n";
+    let unsorted = "refused: 45, the sorted flag is not set, and only a sorted section can be asked";
+    let damaged =
+        "refused: 44, the function landed on covers the PC and breaks one of the rules 9 to 13, in function 0";
+    let answers = [
+        ("S", "401003", format!("found: function 0, {row}2\n")),
+        ("S", "0x000000000040103F", none.to_string()),
+        ("S", "401040", format!("found: function 1, {row}1\n")),
+        ("unsorted", "401003", format!("{unsorted}\nentries compared: 0\n")),
+        ("short", "401003", "refused: 1, fewer than 28 bytes\nentries compared: 0\n".to_string()),
+        ("twice", "401003", format!("{damaged}\nentries compared: 2\n")),
+        ("twice", "401020", none.to_string()),
+        ("twice", "0x401040", format!("found: function 1, {row}1\n")),
+    ];
+    for (file, pc, expected) in answers {
+        folder.answers(&["ask", file, "400000", pc], &expected);
+    }
+    let refused = "refused: 13, a row start is not above the one before it, in function 0\nentries compared: 0\n";
+    folder.answers(&["lookup", "twice", "400000", "401040"], refused);
+}
+
+// One question of every answer that is told apart, in each machine's stored cases.
+#[test]
+fn every_answer_of_one_that_is_asked_is_told() {
+    let folder = Folder::of("asked");
+    let mut told = BTreeSet::new();
+    for case in cases::all() {
+        for question in &case.questions {
+            let asked = case.asked_of(question);
+            let abi = case.section.get(4).copied().unwrap_or(0);
+            if told.insert((abi, asked.refusal(), case.expected.number())) {
+                ask(&folder, &case.section, question.address, question.pc);
+            }
+        }
+    }
+    let numbers: BTreeSet<u64> = told.iter().map(|(_, number, _)| *number).collect();
+    // 2 is longer than what the program reads.
+    let expected = BTreeSet::from([0, 1, 3, 4, 5, 6, 7, 8, 21, 23, 44, 45]);
+    assert_eq!(numbers, expected);
+    for number in [0, 21, 23, 44, 45] {
+        assert!((1..=3).all(|abi| told.iter().any(|&(on, told, _)| (on, told) == (abi, number))), "{number}: {told:?}");
     }
 }
 
@@ -181,6 +241,7 @@ fn the_cases_of_document_01_are_answered() {
         let case = case_named(&cases, name);
         check(&folder, &case.section);
         case.questions.iter().take(24).for_each(|asked| lookup(&folder, &case.section, asked.address, asked.pc));
+        case.questions.iter().take(24).for_each(|asked| ask(&folder, &case.section, asked.address, asked.pc));
         case.walks.iter().for_each(|(one, _)| walk(&folder, &case.section, one));
     }
     for name in ["examples_aarch64", "examples_aarch64be"] {
@@ -214,6 +275,7 @@ fn every_refusal_of_a_section_is_told() {
         if told.insert(number) {
             check(&folder, &case.section);
             lookup(&folder, &case.section, ADDRESS, ADDRESS);
+            ask(&folder, &case.section, ADDRESS, ADDRESS);
             walk(&folder, &case.section, first);
         }
     }
@@ -289,6 +351,7 @@ fn a_section_is_read_up_to_its_most_bytes() {
     folder.refuses(&["check", "section"], &too_long);
     folder.refuses(&["list", "section"], &too_long);
     folder.refuses(&["lookup", "section", "0", "0"], &too_long);
+    folder.refuses(&["ask", "section", "0", "0"], &too_long);
 }
 
 // K10 at the very end of a window of the most bytes.
@@ -370,6 +433,7 @@ fn a_wrong_file_is_told() {
         folder.refuses(&["list", file], &said);
         folder.refuses(&["list", file, "0"], &said);
         folder.refuses(&["lookup", file, "0", "0"], &said);
+        folder.refuses(&["ask", file, "0", "0"], &said);
         folder.refuses(&walk_of("caller", file, "S"), &said);
         folder.refuses(&walk_of("caller", "S", file), &said);
         folder.refuses(&walk_of("trace", file, "S"), &said);
@@ -400,6 +464,8 @@ fn the_leftmost_wrong_argument_is_told() {
     folder.refuses(&["lookup", "nofile", "xyz"], &wrong::count("lookup"));
     folder.refuses(&["lookup", "nofile", "xyz", "zzz"], &wrong::missing("nofile"));
     folder.refuses(&["lookup", "S", "xyz", "zzz"], &wrong::number("ADDRESS", "xyz"));
+    folder.refuses(&["ask", "nofile", "xyz", "zzz"], &wrong::missing("nofile"));
+    folder.refuses(&["ask", "S", "xyz", "zzz"], &wrong::number("ADDRESS", "xyz"));
     folder.refuses(&["trace", "S", "xyz", "nofile", "", "", "", "", "", ""], &wrong::number("ADDRESS", "xyz"));
     folder.refuses(&["trace", "S", "0", "nofile", "", "", "", "", "", ""], &wrong::missing("nofile"));
     folder.refuses(&["caller", "S", "0", "S", "0", "0", "0", "q", "r", "s"], &wrong::number("FP", "q"));
@@ -423,7 +489,11 @@ fn help_lists_every_command() {
     assert!(out.lines().count() >= 2 * COMMANDS.len(), "{out}");
     let mut said = out.lines().skip_while(|line| !line.starts_with("A caller looks up PC with the mark and "));
     assert_eq!(said.nth(1), Some(OF_THE_MASK), "{out}");
+    let lines: Vec<&str> = out.lines().skip_while(|line| !line.starts_with("sframe lookup ")).collect();
+    assert_eq!(lines[2..4], ["sframe ask FILE ADDRESS PC", OF_ASKING], "{out}");
 }
+
+const OF_ASKING: &str = "    the same without a check of the whole section: only what the answer needs is read";
 
 const OF_THE_MASK: &str = concat!(
     "MASK has the bits of a signature, which are cleared from a signed RA (AArch64); ",

@@ -1,4 +1,4 @@
-//! The seven functions of the C surface, with slices in place of pointers and lengths: the crate's only unsafe code.
+//! The eight functions of the C surface, with slices in place of pointers and lengths: the crate's only unsafe code.
 
 #[repr(C)]
 pub struct Verdict {
@@ -92,6 +92,7 @@ extern "C" {
     fn suntimpani_rows_of(section: *const u8, length: usize, index: u64) -> Rows;
     fn suntimpani_next_row(section: *const u8, length: usize, rows: Rows) -> Row;
     fn suntimpani_lookup(section: *const u8, length: usize, address: u64, pc: u64) -> Answer;
+    fn suntimpani_ask(section: *const u8, length: usize, address: u64, pc: u64) -> Answer;
     fn suntimpani_caller(
         section: *const u8,
         length: usize,
@@ -136,6 +137,11 @@ pub fn next_row(section: &[u8], rows: Rows) -> Row {
 pub fn lookup(section: &[u8], address: u64, pc: u64) -> Answer {
     // SAFETY: the pointer and the length are those of a slice, which is lent for the length of the call.
     unsafe { suntimpani_lookup(section.as_ptr(), section.len(), address, pc) }
+}
+
+pub fn ask(section: &[u8], address: u64, pc: u64) -> Answer {
+    // SAFETY: the pointer and the length are those of a slice, which is lent for the length of the call.
+    unsafe { suntimpani_ask(section.as_ptr(), section.len(), address, pc) }
 }
 
 pub fn caller(section: &[u8], stack: &[u8], process: Process, registers: Registers) -> Step {

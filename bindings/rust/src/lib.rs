@@ -2,10 +2,10 @@
 //! program's stack, with every answer proved.
 //!
 //! You lend a section, registers, a stack window and a buffer. [`check`] says whether the section is sound,
-//! [`function_at`] where the function with an index lies and [`rows`](rows()) what its rows are, [`lookup`] which function
-//! and row cover a PC, [`Registers::step`] what the caller's registers are, and [`trace`] what the whole trace is. Any
-//! bytes and any numbers may be handed in: every call ends, and an answer that cannot be given is a refusal with its
-//! number.
+//! [`function_at`] where the function with an index lies and [`rows`](rows()) what its rows are, [`lookup`] which
+//! function and row cover a PC ([`ask`](ask()) without a check of the whole section), [`Registers::step`] what the
+//! caller's registers are, and [`trace`] what the whole trace is. Any bytes and any numbers may be handed in: every
+//! call ends, and an answer that cannot be given is a refusal with its number.
 //!
 //! Nothing is allocated and nothing is kept, so that all of it may be called in a signal handler. The crate needs
 //! neither `std` nor an allocator.
@@ -28,6 +28,7 @@
 #![deny(unsafe_code)]
 #![warn(missing_docs)]
 
+mod ask;
 #[allow(unsafe_code)]
 mod calls;
 pub mod example;
@@ -37,6 +38,7 @@ mod refusal;
 mod rows;
 mod walk;
 
+pub use ask::{ask, AskAnswer};
 pub use functions::{function_at, functions, Block, Function, Functions};
 pub use look::{lookup, Answer, Base, Outcome, Place, Row};
 pub use refusal::{Refusal, Rule, Unsound};

@@ -5,6 +5,7 @@ pub mod Edges
 pub mod Exactly
 mod Examples
 pub mod FaultLaws
+pub mod HeaderLaws
 pub mod InOrder
 pub mod RowLaws
 pub mod RuleLaws

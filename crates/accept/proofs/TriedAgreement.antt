@@ -99,6 +99,21 @@ unfolding entryFault entryTests
 entry-fault-agrees area other shape entry long same =
     rw (long, rows-fault-agrees area other shape (typeOf (entry .info)) (entry .first) (entry .rows) long same)
 
+-- ---- the header
+
+-- 1 to 8 look at the length and the first 28 bytes
+pub header-fault-agrees : (s t : List ℕ) → length s ≡ length t → AgreeOn (InSpan 0 28) s t → headerFault s ≡ headerFault t
+unfolding headerFault headerTests
+header-fault-agrees s t long same =
+    rw (
+      long,
+      magic-agrees s t same Little,
+      magic-agrees s t same Big,
+      marks-agree s t same,
+      order-agrees s t same,
+      sizes-agree s t same (orderOf t),
+    )
+
 -- ---- a whole section
 
 module _ (s t : List ℕ) (alike : CheckAlike s t) where
@@ -109,16 +124,7 @@ module _ (s t : List ℕ) (alike : CheckAlike s t) where
   one-entry i lt = entries-agree s t (alike .header) (alike .table) i lt
 
   one-header : headerFault s ≡ headerFault t
-  unfolding headerFault headerTests
-  one-header =
-      rw (
-        alike .long,
-        magic-agrees s t (alike .header) Little,
-        magic-agrees s t (alike .header) Big,
-        marks-agree s t (alike .header),
-        order-agrees s t (alike .header),
-        sizes-agree s t (alike .header) (orderOf t),
-      )
+  one-header = header-fault-agrees s t (alike .long) (alike .header)
 
   as-long : length (areaOf s) ≡ length (areaOf t)
   unfolding areaOf

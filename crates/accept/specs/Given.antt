@@ -3,7 +3,7 @@
 use mathlib.Core.Path.{_≡_}
 use mathlib.Core.Logic.{_⊎_}
 use mathlib.Core.List.{List, [], _∷_}
-use Prim.Native.Nat.{ℕ, _<_}
+use Prim.Native.Nat.{ℕ, _≤_, _<_}
 use Rattle.accept.specs.Rules.{functionCount, rowCount, Rule1, Rule2, Rule3, Rule4, Rule5, Rule6, Rule7, Rule8, Rule9, Rule10, Rule11First, Rule11Fixed, Rule11Offsets, Rule12, Rule13, Rule14, Rule15, HeaderObeys, RowObeys, EntryObeys}
 use Rattle.accept.specs.declared.verdict.Verdict.{Verdict}
 use Rattle.accept.specs.declared.verdict.Verdict.the-variants.{Accepted, Refused}
@@ -100,3 +100,7 @@ Given s rowSum i = (i ≡ 0) × HeaderObeys s × ((j : ℕ) → j < functionCoun
 -- the rule is the first broken one, in the entry with some index
 abbrev pub BrokenFirst : List ℕ → Rule → Type 0
 BrokenFirst s rule = (index : ℕ) × Given s rule index
+
+-- the rule is one of the header's, which have the numbers 1 to 8, and the first broken one
+abbrev pub HeaderBreaks : List ℕ → Rule → Type 0
+HeaderBreaks s rule = (numberOfRule rule ≤ 8) × Given s rule 0

@@ -13,7 +13,7 @@ ghost use Rattle.section.specs.Entry.{repeats};
 ghost use Rattle.accept.specs.computed.Checks.{wrongEntryInfo, entryFault};
 
 // Whether an info byte has bit 6 or 7 set, or a row type above 2.
-fn wrong_entry_info(info: u8) -> bool
+pub fn wrong_entry_info(info: u8) -> bool
     ensures { λ r. ⌜ r ≡ wrongEntryInfo info ⌝ }
 {
     if bit_of(6, info) {
@@ -29,7 +29,7 @@ fn wrong_entry_info(info: u8) -> bool
 }
 
 // Whether a block repeats by nothing.
-fn wrong_repeat(info: u8, repeat: u8) -> bool
+pub fn wrong_repeat(info: u8, repeat: u8) -> bool
     ensures { λ r. ⌜ r ≡ repeats info && eqb repeat 0 ⌝ }
 {
     if does_repeat(info) {

@@ -29,7 +29,7 @@ fn wrong_row_info(most: u8, info: u8) -> bool
 }
 
 // The row at `at`, but for its start: fixed part inside, info, offsets inside.
-fn check_row(area: &[u8], shape: Shape, code: usize, at: usize) -> Fault
+pub fn check_row(area: &[u8], shape: Shape, code: usize, at: usize) -> Fault
     requires { ⌜ (code ≤ 2) × (at ≤ length (now area)) ⌝ }
     ensures { λ r. ⌜ r ≡ firstBad (take 3 (rowTests (now (area .entry)) shape code at 0)) ⌝ }
 {

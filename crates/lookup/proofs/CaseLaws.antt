@@ -47,7 +47,7 @@ module _ (s : List ℕ) (d : ℤ) where
   in-list : (i : ℕ) → Covers s d i → i < length (functionsOf s)
   in-list i h = rw functions-count (h .0)
 
-  covers-at : (i : ℕ) → Covers s d i → coversAt d (functionsOf s) i ≡ true
+  pub covers-at : (i : ℕ) → Covers s d i → coversAt d (functionsOf s) i ≡ true
   unfolding functionIn
   covers-at i h = rw (functions-at s i (h .0)) (is-true (covers-shows d (functionIn s i)) (h .1, h .2))
 
@@ -89,21 +89,21 @@ module _ (s : List ℕ) (d : ℤ) where
 -- ---- the row of one function
 
 module _ (s : List ℕ) (i o : ℕ) where
-  none-row : NoneAtMost s i o → lastRow o 0 (functionIn s i .rows) ≡ Missed
+  pub none-row : NoneAtMost s i o → lastRow o 0 (functionIn s i .rows) ≡ Missed
   unfolding functionIn rowIn rowOf rowCount rowStartAt
   none-row none =
       last-none o (rowOfFunction s i) (rowCount s i) 0 λ j le lt.
       let above : ¬ (rowStartAt s i j ≤ o) = λ at. none j (omega arith, at) in
       omega arith
 
-  last-row : (k : ℕ) → LastAtMost s i o k → lastRow o 0 (functionIn s i .rows) ≡ Hit (rowOfFunction s i k) k
+  pub last-row : (k : ℕ) → LastAtMost s i o k → lastRow o 0 (functionIn s i .rows) ≡ Hit (rowOfFunction s i k) k
   unfolding functionIn rowIn rowOf rowCount rowStartAt
   last-row k h =
       last-is o (rowOfFunction s i) (rowCount s i) 0 k (omega arith) (omega arith) (h .0 .1) λ j less lt.
       let above : ¬ (rowStartAt s i j ≤ o) = λ at. omega (arith, h .1 j (omega arith, at)) in
       omega arith
 
-  rows-decided : NoneAtMost s i o ⊎ ((k : ℕ) × LastAtMost s i o k)
+  pub rows-decided : NoneAtMost s i o ⊎ ((k : ℕ) × LastAtMost s i o k)
   rows-decided =
       ⊎-elim
       (λ above. inl (λ k at. omega (arith, above k (omega arith) (omega arith))))

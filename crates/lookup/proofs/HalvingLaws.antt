@@ -33,7 +33,7 @@ module _ (atMost : ℕ → Bool) where
   halve-stop (suc turns) low high compared le = rw (le-ltb low high le, halve)
 
   -- go on by what the turn does
-  by-turn : {X : Type 0} (low high : ℕ) → (high ≤ low → X) → (low < high → atMost ((low + high) / 2) ≡ true → X)
+  pub by-turn : {X : Type 0} (low high : ℕ) → (high ≤ low → X) → (low < high → atMost ((low + high) / 2) ≡ true → X)
       → (low < high → atMost ((low + high) / 2) ≡ false → X) → X
   by-turn low high stop up down =
       by-value (ltb low high)

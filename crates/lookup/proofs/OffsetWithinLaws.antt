@@ -15,6 +15,7 @@ use Rattle.numbers.proofs.DiffLaws.{Diff, diff-pos, diff-add, diff-lt}
 use Rattle.section.specs.Entry.{repeats}
 use Rattle.section.specs.Meaning.{Block, plain, repeated, blockOf, entryIn, functionStart, functionIn}
 use Rattle.section.specs.declared.entry.Entry.{Entry}
+use Rattle.accept.specs.Rules.{Rule10}
 use Rattle.accept.specs.computed.Checks.{verdict}
 use Rattle.accept.specs.declared.verdict.Verdict.the-variants.{Accepted}
 use Rattle.accept.proofs.Exactly.{accepted-exactly-when}
@@ -72,15 +73,18 @@ leaves-unique (repeated size) past o h =
 
 -- ---- the offset
 
-pub offset-is : (s : List ℕ) → verdict s ≡ Accepted → (d : ℤ) (i : ℕ) → Covers s d i → OffsetIs s d i (offsetWithin d (functionIn s i))
+-- of a function that does not repeat by nothing
+pub offset-there : (s : List ℕ) (d : ℤ) (i : ℕ) → Rule10 s i → Covers s d i → OffsetIs s d i (offsetWithin d (functionIn s i))
 unfolding offsetWithin functionIn
-offset-is s e d i covered =
-    let rule = accepted-exactly-when s .0 e .entries i (covered .0) .rule10 in
+offset-there s d i rule covered =
     record {
       past = natural (d -ℤ functionStart s i);
       past-is = reached (functionStart s i) d (covered .1);
       leaves = leaves-within (blockOf (entryIn s i)) (natural (d -ℤ functionStart s i)) (repeat-positive (entryIn s i) rule);
     }
+
+pub offset-is : (s : List ℕ) → verdict s ≡ Accepted → (d : ℤ) (i : ℕ) → Covers s d i → OffsetIs s d i (offsetWithin d (functionIn s i))
+offset-is s e d i covered = offset-there s d i (accepted-exactly-when s .0 e .entries i (covered .0) .rule10) covered
 
 pub offset-unique : {s : List ℕ} {d : ℤ} {i o : ℕ} → OffsetIs s d i o → o ≡ offsetWithin d (functionIn s i)
 unfolding offsetWithin functionIn

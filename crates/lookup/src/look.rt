@@ -36,7 +36,7 @@ fn left_over(past: u64, size: u8) -> u64
 }
 
 // The offset that a row's start is compared with, of a PC that is `past` the function's start.
-fn in_block(entry: Entry, past: u64) -> u64
+pub fn block_offset(entry: Entry, past: u64) -> u64
     requires { ⌜ (repeats (entry .info) ≡ true → 0 < entry .repeat) ⌝ }
     ensures { λ r. ⌜ r ≡ inBlock (blockOf entry) past ⌝ }
 {
@@ -59,7 +59,7 @@ fn row_for(section: &[u8], layout: Layout, i: u64, address: u64, pc: u64) -> Sca
         &section[from..],
         shape_of(abi),
         entry,
-        in_block(entry, past),
+        block_offset(entry, past),
     )
 }
 

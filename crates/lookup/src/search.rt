@@ -188,6 +188,41 @@ fn landed_on(section: &[u8], layout: Layout, order: Order, low: u64, d: u64) -> 
     Cover::Nobody
 }
 
+// Where the halving rule lands for a PC, for those who do not ask whether the section is in order. It does not call `halve`: a second
+// caller would keep that loop from being compiled into a lookup, and a trace makes one for each frame.
+pub fn land(section: &[u8], layout: Layout, address: u64, pc: u64) -> Landing
+    requires { ⌜ HeaderOf (now section) layout ⌝ }
+    ensures { λ r. ⌜ r ≡ landing (distance address pc) (functionsOf (now (section .entry))) ⌝ }
+    ensures range { λ r. ⌜ r .low ≤ layout .functions ⌝ }
+{
+    let order = order_at(section);
+    let bound = bound_of(near_of(address, pc));
+    let mut low = 0;
+    let mut high = layout.functions as u64;
+    let mut compared = 0;
+    while low < high {
+        let middle = (low + high) / 2;
+        compared = compared + 1;
+        if rank_at(section, layout, order, middle) < bound {
+            low = middle + 1;
+        } else {
+            high = middle;
+        }
+    }
+    Landing {
+        low: low,
+        compared: compared,
+    }
+}
+
+// Whether function i covers a PC.
+pub fn covers_in(section: &[u8], layout: Layout, i: u64, address: u64, pc: u64) -> bool
+    requires { ⌜ HeaderOf (now section) layout × (i < layout .functions) ⌝ }
+    ensures { λ r. ⌜ r ≡ covers (distance address pc) (functionIn (now (section .entry)) i) ⌝ }
+{
+    covers_at(section, layout, order_at(section), i, near_of(address, pc))
+}
+
 // The covering function for a PC: a sorted section is halved, any other is scanned.
 pub fn find(section: &[u8], layout: Layout, address: u64, pc: u64) -> Search
     requires { ⌜ HeaderOf (now section) layout ⌝ }

@@ -40,9 +40,9 @@ exports-kept =
 
 -- ---- flat calls that keep them are ours
 
-kept-are-exported : (flat : FlatCalls) → FlatKeeps flat → flat ≡ exported
+pub flat-are-exported : (flat : FlatCalls) → FlatKeeps flat → flat ≡ exported
 unfolding exported flatCalls ours handedAs
-kept-are-exported flat keeps =
+flat-are-exported flat keeps =
     same-calls flat exported
     (λ s. keeps .check ([], tt) (lent somewhere s, tt))
     (λ s address pc. keeps .lookup ([], tt) (lent somewhere s, (address, (pc, tt))))
@@ -58,7 +58,7 @@ read-exported = same-calls (readCalls exported) ours check-read-back lookup-read
 
 module _ (flat : FlatCalls) (keeps : FlatKeeps flat) where
   read-is-ours : readCalls flat ≡ ours
-  read-is-ours = ap readCalls (kept-are-exported flat keeps) ∙ read-exported
+  read-is-ours = ap readCalls (flat-are-exported flat keeps) ∙ read-exported
 
   -- so what is read keeps the contracts of the four public functions, and whatever is promised of those holds
   pub read-keeps : Keeps (readCalls flat)
@@ -66,7 +66,7 @@ module _ (flat : FlatCalls) (keeps : FlatKeeps flat) where
 
   flat-is-flattened : flat ≡ flatCalls (readCalls flat)
   unfolding exported
-  flat-is-flattened = kept-are-exported flat keeps ∙ ap flatCalls (sym read-is-ours)
+  flat-is-flattened = flat-are-exported flat keeps ∙ ap flatCalls (sym read-is-ours)
 
   -- K1 to K12, the AArch64 examples and those of requests 03 and 04, as a program in C reads them
   pub table-exported : (mask lr first a b c d e f : ℕ) → Holds (readCalls flat) (table mask lr first a b c d e f)

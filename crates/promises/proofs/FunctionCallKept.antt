@@ -16,23 +16,23 @@ use Rattle.section.specs.Entry.{repeats}
 use Rattle.section.specs.Header.{layoutOf}
 use Rattle.section.specs.Meaning.{plain, repeated, entryIn, blockOf}
 use Rattle.section.specs.declared.entry.Entry.{Entry}
-use Rattle.accept.specs.Given.{numberOfRule}
+use Rattle.accept.specs.Given.{numberOfRule, HeaderBreaks}
 use Rattle.accept.specs.Rules.{functionCount, rowCount, Obeys}
 use Rattle.accept.specs.computed.Checks.{headerFault}
 use Rattle.accept.specs.declared.verdict.Fault.{Fault}
 use Rattle.accept.specs.declared.verdict.Fault.the-variants.{Sound, Breaks}
 use Rattle.accept.proofs.CauseLaws.{rules-distinct, due-exactly-when}
 use Rattle.accept.proofs.Exactly.{header-exactly-when}
+use Rattle.accept.proofs.HeaderLaws.{numberOfFault, breaks-not-obeys, fault-due, fault-makes, fault-none}
 use Rattle.listing.specs.Functions.{kindOf, rowsPlace, factsOf, describedIn, describedBy, describedOf}
 use Rattle.listing.specs.declared.function.Described.{Described}
 use Rattle.listing.specs.declared.function.Described.the-variants.{Unknown, Function}
 use Rattle.lookup.specs.Cases.{Covers}
 use Rattle.suntimpani.specs.Flat.{kindNumber, repeatOf, noFunction, flatFacts, flatFunction}
 use Rattle.suntimpani.specs.declared.functions.FunctionInC.{FunctionInC}
-use Rattle.promises.specs.FunctionCall.{FunctionCall, exportedFunction, HeaderBreaks, HasFunction, NumberTold, EntryTold, NothingTold, TellsFunctions, KeepsFunction, FunctionPromised}
+use Rattle.promises.specs.FunctionCall.{FunctionCall, exportedFunction, HasFunction, NumberTold, EntryTold, NothingTold, TellsFunctions, KeepsFunction, FunctionPromised}
 use Rattle.promises.specs.inner.Lent.{lent}
 use Rattle.promises.proofs.ContractLaws.{somewhere}
-use Rattle.promises.proofs.HeaderLaws.{numberOfFault, breaks-not-obeys, fault-due, fault-makes, fault-none}
 
 -- ---- the block of an entry, by its bit
 

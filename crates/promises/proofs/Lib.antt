@@ -1,4 +1,6 @@
 pub mod AcceptDetermined
+pub mod AskDetermined
+pub mod AskKept
 pub mod Broken
 pub mod BufferLaws
 pub mod CallerDetermined
@@ -11,7 +13,6 @@ pub mod DigitsDetermined
 pub mod ExportedKept
 pub mod FunctionCallKept
 pub mod FunctionsOfS
-pub mod HeaderLaws
 pub mod Kept
 pub mod ListingAlone
 pub mod ListingDetermined

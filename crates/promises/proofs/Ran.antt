@@ -1,4 +1,4 @@
--- Each of the seven exported functions, run on the toolchain's machine from a memory that has nothing but what is lent, ends with the struct
+-- Each of the eight exported functions, run on the toolchain's machine from a memory that has nothing but what is lent, ends with the struct
 -- that its contract names, and a trace leaves the buffer with the words that it names. So `Returns` is not said of nothing.
 -- Assumes nothing.
 use mathlib.Core.Path.{refl, ap, subst}
@@ -48,8 +48,10 @@ use Rattle.suntimpani.proofs.suntimpani_function_at as exported-function_at
 use Rattle.suntimpani.proofs.suntimpani_rows_of as exported-rows_of
 use Rattle.suntimpani.proofs.suntimpani_next_row as exported-next_row
 use Rattle.suntimpani.proofs.suntimpani_lookup as exported-lookup
+use Rattle.suntimpani.proofs.suntimpani_ask as exported-ask
 use Rattle.suntimpani.proofs.suntimpani_caller as exported-caller
 use Rattle.suntimpani.proofs.suntimpani_trace as exported-trace
+use Rattle.promises.specs.AskCall.{exportedAsk}
 use Rattle.promises.specs.Exported.{exported}
 use Rattle.promises.specs.FunctionCall.{exportedFunction}
 use Rattle.promises.specs.RowsCall.{exportedRows}
@@ -58,7 +60,7 @@ use Rattle.promises.specs.Runs.{Runs, Bytes, whole, processValue, Proces
 use Rattle.promises.proofs.BufferLaws.{Buffer, words, words-kept, lends-words, can-be-stored, with-buffer, buffer-has}
 use Rattle.promises.proofs.ExportedKept.{exports-give}
 use Rattle.promises.proofs.ReturnLaws.{𝓤, H, 𝓜, A}
-use Rattle.promises.proofs.Returned.{exported-check-returns, exported-function_at-returns, exported-rows_of-returns, exported-next_row-returns, exported-lookup-returns, exported-caller-returns, exported-trace-returns}
+use Rattle.promises.proofs.Returned.{exported-check-returns, exported-function_at-returns, exported-rows_of-returns, exported-next_row-returns, exported-lookup-returns, exported-ask-returns, exported-caller-returns, exported-trace-returns}
 use Rattle.promises.proofs.RunLaws.{W, hold, Ready, nothing-yet, and-value, and-lent, referred, Block, slice, slice-kept, lends-bytes, run-ends, runs}
 
 -- ---- what is handed in
@@ -148,6 +150,19 @@ exported-lookup-runs s address pc bytes address-fits pc-fits =
     let κs : Lfts 1 = (α ∷ [], tt) in
     let a : Dens κs exported-lookup.Kinds.ps = (referred 0 s γ, (address, (pc, tt))) in
     runs exported-lookup-returns κs tt (fullShare, tt) a all (λ z w. exports-give .lookup κs a z .0)
+
+pub exported-ask-runs : (s : List ℕ) (address pc : ℕ) → Bytes s → address < 2 ^ 64 → pc < 2 ^ 64
+    → Runs exported-ask.Symbol.routine (whole 0 s ∷ vint w64 address ∷ vint w64 pc ∷ []) (startMem s [])
+    (λ value after. StandsFor answer-type.the-row (exportedAsk s address pc) value)
+unfolding exportedAsk
+exported-ask-runs s address pc bytes address-fits pc-fits =
+    ∥∥₁-elim
+    (and-slice (emp 𝓤) 0 s 0 bytes (and-value (word address address-fits) (and-value (word pc pc-fits) (nothing-yet (one-block s bytes)))))
+    ∥∥₁-prop λ lent.
+    let (α, γ, all) = lent in
+    let κs : Lfts 1 = (α ∷ [], tt) in
+    let a : Dens κs exported-ask.Kinds.ps = (referred 0 s γ, (address, (pc, tt))) in
+    runs exported-ask-returns κs tt (fullShare, tt) a all (λ z w allowed. allowed)
 
 pub exported-caller-runs : (s stack : List ℕ) (process : Process) (registers : Registers) → Bytes s → Bytes stack → ProcessFits process → RegistersFit registers
     → Runs exported-caller.Symbol.routine (whole 0 s ∷ whole 1 stack ∷ processValue process ∷ registersValue registers ∷ []) (startMem s stack)

@@ -1,6 +1,7 @@
 -- No `requires` of a public function excludes everything: each is met by section S of document 01, wherever it lies.
 -- Assumes nothing.
 use mathlib.Core.Path.{refl}
+use mathlib.Core.Bool.{false≢true}
 use mathlib.Core.List.{List, [], _∷_}
 use Prim.Native.Nat.{ℕ, _<_}
 use native.Mathlib.Omega.{arith}
@@ -29,12 +30,16 @@ use Rattle.section.proofs.row.info_at.Reads as info_at-reads
 use Rattle.section.proofs.row.row_at.Reads as row_at-reads
 use Rattle.section.proofs.row.row_length.Reads as row_length-reads
 use Rattle.section.proofs.row.row_start_at.Reads as row_start_at-reads
+use Rattle.accept.proofs.row_check.check_row.Reads as check_row-reads
 use Rattle.accept.proofs.row_check.check_rows.Reads as check_rows-reads
 use Rattle.listing.proofs.function.facts_at.Reads as facts_at-reads
 use Rattle.lookup.specs.inner.Opened.{lookupOpened}
+use Rattle.lookup.proofs.look.block_offset.Reads as block_offset-reads
 use Rattle.lookup.proofs.look.look.Reads as look-reads
 use Rattle.lookup.proofs.rows.scan_rows.Reads as scan_rows-reads
+use Rattle.lookup.proofs.search.covers_in.Reads as covers_in-reads
 use Rattle.lookup.proofs.search.find.Reads as find-reads
+use Rattle.lookup.proofs.search.land.Reads as land-reads
 use Rattle.lookup.proofs.table.entry_in.Reads as entry_in-reads
 use Rattle.caller.specs.declared.registers.Registers.{Registers}
 use Rattle.caller.specs.declared.registers.Process.{Process}
@@ -136,6 +141,11 @@ row_at-met κs here =
 
 -- ---- accept
 
+-- the first row
+pub check_row-met : (κs : Lfts 1) (here : Lies) → check_row-reads.Asked κs (lent here (areaOf sectionS), (shapeOf sectionS, (0, (0, tt))))
+unfolding lookupOpened sectionS
+check_row-met κs here = (omega arith, omega arith)
+
 -- the rows of the first entry
 pub check_rows-met :
     (κs : Lfts 1) (here : Lies)
@@ -172,6 +182,22 @@ pub find-met :
     (κs : Lfts 1) (here : Lies) (address pc : ℕ) → find-reads.Asked κs (lent here sectionS, (layoutOf sectionS, (address, (pc, tt))))
 unfolding lookupOpened sectionS
 find-met κs here address pc = record { sound = refl; layout-is = refl }
+
+pub land-met :
+    (κs : Lfts 1) (here : Lies) (address pc : ℕ) → land-reads.Asked κs (lent here sectionS, (layoutOf sectionS, (address, (pc, tt))))
+unfolding lookupOpened sectionS
+land-met κs here address pc = record { sound = refl; layout-is = refl }
+
+-- both functions
+pub covers_in-met :
+    (κs : Lfts 1) (here : Lies) (i address pc : ℕ) → i < 2 → covers_in-reads.Asked κs (lent here sectionS, (layoutOf sectionS, (i, (address, (pc, tt)))))
+unfolding lookupOpened sectionS
+covers_in-met κs here i address pc inside = (record { sound = refl; layout-is = refl }, inside)
+
+-- its functions are plain blocks
+pub block_offset-met : (κs : Lfts 0) (past : ℕ) → block_offset-reads.Asked κs (entryIn sectionS 0, (past, tt))
+unfolding lookupOpened sectionS
+block_offset-met κs past repeats = absurd (false≢true repeats)
 
 -- both entries
 pub entry_in-met :

@@ -1,4 +1,4 @@
--- The code of each of the four public functions and of `function_at`, of the readers of rows and of lines, and of the seven exported functions,
+-- The code of each of the four public functions and of `function_at`, of the readers of rows and of lines, and of the eight exported functions,
 -- returns: it reads and writes only what is lent, and ends, with a reply that its contract allows.
 -- Assumes nothing.
 use mathlib.Core.Path.{refl}
@@ -12,6 +12,7 @@ use Rattle.listing.proofs.reader.place_of as place_of
 use Rattle.listing.proofs.reader.reader_of as reader_of
 use Rattle.listing.proofs.rows.row_turn as row_turn
 use Rattle.lookup.proofs.look.lookup as lookup
+use Rattle.ask.proofs.land.ask as ask
 use Rattle.caller.proofs.registers.Registers.step as step
 use Rattle.trace.proofs.walk.trace as trace
 use Rattle.suntimpani.proofs.suntimpani_check as exported-check
@@ -19,6 +20,7 @@ use Rattle.suntimpani.proofs.suntimpani_function_at as exported-function_at
 use Rattle.suntimpani.proofs.suntimpani_rows_of as exported-rows_of
 use Rattle.suntimpani.proofs.suntimpani_next_row as exported-next_row
 use Rattle.suntimpani.proofs.suntimpani_lookup as exported-lookup
+use Rattle.suntimpani.proofs.suntimpani_ask as exported-ask
 use Rattle.suntimpani.proofs.suntimpani_caller as exported-caller
 use Rattle.suntimpani.proofs.suntimpani_trace as exported-trace
 use Rattle.promises.specs.ByClauses.{ReturnsBy}
@@ -37,6 +39,9 @@ function_at-returns = met-returns (function_at.Met.met 𝓤 H 𝓜 𝓖 𝓡)
 
 pub lookup-returns : Returns lookup.Kinds.ps lookup.Kinds.r lookup.Reads.Learnt lookup.Symbol.routine
 lookup-returns = met-returns (lookup.Met.met 𝓤 H 𝓜 𝓖 𝓡)
+
+pub ask-returns : Returns ask.Kinds.ps ask.Kinds.r ask.Reads.Learnt ask.Symbol.routine
+ask-returns = met-returns (ask.Met.met 𝓤 H 𝓜 𝓖 𝓡)
 
 pub step-returns : Returns step.Kinds.ps step.Kinds.r step.Reads.Learnt step.Symbol.routine
 step-returns = met-returns (step.Met.met 𝓤 H 𝓜 𝓖 𝓡)
@@ -89,6 +94,9 @@ exported-next_row-returns = met-returns (exported-next_row.Met.met 𝓤 H 𝓜 �
 
 pub exported-lookup-returns : Returns exported-lookup.Kinds.ps exported-lookup.Kinds.r exported-lookup.Reads.Learnt exported-lookup.Symbol.routine
 exported-lookup-returns = met-returns (exported-lookup.Met.met 𝓤 H 𝓜 𝓖 𝓡)
+
+pub exported-ask-returns : Returns exported-ask.Kinds.ps exported-ask.Kinds.r exported-ask.Reads.Learnt exported-ask.Symbol.routine
+exported-ask-returns = met-returns (exported-ask.Met.met 𝓤 H 𝓜 𝓖 𝓡)
 
 pub exported-caller-returns : Returns exported-caller.Kinds.ps exported-caller.Kinds.r exported-caller.Reads.Learnt exported-caller.Symbol.routine
 exported-caller-returns = met-returns (exported-caller.Met.met 𝓤 H 𝓜 𝓖 𝓡)

@@ -21,6 +21,7 @@ use Rattle.accept.specs.computed.Checks.{headerFault}
 use Rattle.accept.specs.declared.verdict.Fault.{Fault}
 use Rattle.accept.specs.declared.verdict.Fault.the-variants.{Sound, Breaks}
 use Rattle.accept.proofs.Exactly.{header-exactly-when}
+use Rattle.accept.proofs.HeaderLaws.{breaks-not-obeys}
 use Rattle.listing.specs.Functions.{rowsPlace, factsOf, describedIn, describedBy, describedOf}
 use Rattle.listing.specs.Listing.{nextRow}
 use Rattle.listing.specs.computed.Reader.{placeIn}
@@ -43,7 +44,6 @@ use Rattle.promises.specs.FunctionCall.{HasFunction}
 use Rattle.promises.specs.RowsCall.{FlatRowCalls, exportedRows, restAfter, rowTold, NextTold, TellsRows, KeepsFlatRows, FlatRowsPromised}
 use Rattle.promises.specs.inner.Lent.{lent}
 use Rattle.promises.proofs.ContractLaws.{somewhere}
-use Rattle.promises.proofs.HeaderLaws.{breaks-not-obeys}
 
 -- ---- whether there is a row is what the struct says
 

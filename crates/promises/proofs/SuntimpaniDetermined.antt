@@ -3,6 +3,8 @@
 -- Assumes nothing.
 use mathlib.Core.Path.{refl, sym, _∙_, ap}
 use Rattle.suntimpani.specs.Flat.{handedAs}
+use Rattle.suntimpani.proofs.asks.flat_asked.Kinds as flat_asked-kinds
+use Rattle.suntimpani.proofs.asks.flat_asked.Reads as flat_asked-reads
 use Rattle.suntimpani.proofs.flat.base_number.Kinds as base_number-kinds
 use Rattle.suntimpani.proofs.flat.base_number.Reads as base_number-reads
 use Rattle.suntimpani.proofs.flat.empty_row.Kinds as empty_row-kinds
@@ -11,6 +13,8 @@ use Rattle.suntimpani.proofs.flat.flag_of.Kinds as flag_of-kinds
 use Rattle.suntimpani.proofs.flat.flag_of.Reads as flag_of-reads
 use Rattle.suntimpani.proofs.flat.flat_answer.Kinds as flat_answer-kinds
 use Rattle.suntimpani.proofs.flat.flat_answer.Reads as flat_answer-reads
+use Rattle.suntimpani.proofs.flat.flat_row.Kinds as flat_row-kinds
+use Rattle.suntimpani.proofs.flat.flat_row.Reads as flat_row-reads
 use Rattle.suntimpani.proofs.flat.flat_verdict.Kinds as flat_verdict-kinds
 use Rattle.suntimpani.proofs.flat.flat_verdict.Reads as flat_verdict-reads
 use Rattle.suntimpani.proofs.flat.place_kind.Kinds as place_kind-kinds
@@ -25,6 +29,8 @@ use Rattle.suntimpani.proofs.rows.flat_turn.Kinds as flat_turn-kinds
 use Rattle.suntimpani.proofs.rows.flat_turn.Reads as flat_turn-reads
 use Rattle.suntimpani.proofs.rows.place_read.Kinds as place_read-kinds
 use Rattle.suntimpani.proofs.rows.place_read.Reads as place_read-reads
+use Rattle.suntimpani.proofs.suntimpani_ask.Kinds as suntimpani_ask-kinds
+use Rattle.suntimpani.proofs.suntimpani_ask.Reads as suntimpani_ask-reads
 use Rattle.suntimpani.proofs.suntimpani_caller.Kinds as suntimpani_caller-kinds
 use Rattle.suntimpani.proofs.suntimpani_caller.Reads as suntimpani_caller-reads
 use Rattle.suntimpani.proofs.suntimpani_check.Kinds as suntimpani_check-kinds
@@ -48,8 +54,14 @@ use Rattle.promises.specs.Determined.{Determined}
 pub flat_verdict-determined : Determined flat_verdict-kinds.ps flat_verdict-kinds.r flat_verdict-reads.Learnt
 flat_verdict-determined κs a z z′ w w′ p q = (p ∙ sym q, refl)
 
+pub flat_row-determined : Determined flat_row-kinds.ps flat_row-kinds.r flat_row-reads.Learnt
+flat_row-determined κs a z z′ w w′ p q = (p ∙ sym q, refl)
+
 pub flat_answer-determined : Determined flat_answer-kinds.ps flat_answer-kinds.r flat_answer-reads.Learnt
 flat_answer-determined κs a z z′ w w′ p q = (p ∙ sym q, refl)
+
+pub flat_asked-determined : Determined flat_asked-kinds.ps flat_asked-kinds.r flat_asked-reads.Learnt
+flat_asked-determined κs a z z′ w w′ p q = (p ∙ sym q, refl)
 
 pub flat_function-determined : Determined flat_function-kinds.ps flat_function-kinds.r flat_function-reads.Learnt
 flat_function-determined κs a z z′ w w′ p q = (p ∙ sym q, refl)
@@ -62,6 +74,9 @@ suntimpani_function_at-determined κs a z z′ w w′ p q = (p ∙ sym q, refl)
 
 pub suntimpani_lookup-determined : Determined suntimpani_lookup-kinds.ps suntimpani_lookup-kinds.r suntimpani_lookup-reads.Learnt
 suntimpani_lookup-determined κs a z z′ w w′ p q = (p ∙ sym q, refl)
+
+pub suntimpani_ask-determined : Determined suntimpani_ask-kinds.ps suntimpani_ask-kinds.r suntimpani_ask-reads.Learnt
+suntimpani_ask-determined κs a z z′ w w′ p q = (p ∙ sym q, refl)
 
 pub suntimpani_caller-determined : Determined suntimpani_caller-kinds.ps suntimpani_caller-kinds.r suntimpani_caller-reads.Learnt
 suntimpani_caller-determined κs a z z′ w w′ p q = (p ∙ sym q, refl)

@@ -12,7 +12,7 @@ use contract.Lifetimes.{Lfts}
 use denote.Ref.{now}
 use Rattle.section.specs.Entry.{repeats}
 use Rattle.section.specs.Meaning.{entryIn, functionStart}
-use Rattle.accept.specs.Given.{Rule, numberOfRule, Given}
+use Rattle.accept.specs.Given.{Rule, numberOfRule, HeaderBreaks}
 use Rattle.accept.specs.Rules.{functionCount, rowCount, HeaderObeys}
 use Rattle.listing.specs.Functions.{describedOf}
 use Rattle.suntimpani.specs.Flat.{flatFunction}
@@ -32,10 +32,6 @@ unfoldable pub exportedFunction : FunctionCall
 exportedFunction s index = flatFunction (describedOf s index)
 
 -- ---- what is promised of one answer
-
--- the rule is one of the header's, which have the numbers 1 to 8, and the first broken one
-abbrev pub HeaderBreaks : List ℕ → Rule → Type 0
-HeaderBreaks s rule = (numberOfRule rule ≤ 8) × Given s rule 0
 
 -- the section has such a function
 abbrev pub HasFunction : List ℕ → ℕ → Type 0

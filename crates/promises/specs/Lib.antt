@@ -1,3 +1,4 @@
+pub mod AskCall
 pub mod ByClauses
 pub mod Calls
 pub mod Contracts

@@ -1,10 +1,12 @@
 // Checks every stored section and prints its verdict, then looks up every stored question on it and makes every stored walk, and
-// prints each answer. `stdout` holds what the independent reader said.
+// prints each answer. Then it goes through the cases once more, and asks every stored question as one address of a section that is not
+// checked whole. `stdout` holds what the independent reader said.
 //
 // The file data/cases holds the cases one after the other. A case is a head of 66 bytes (its name in 38, then behind a space each,
 // in 8 decimal digits, the section's length, the number of questions and how many bytes its walks have, and a line's end), the
 // section's bytes, 16 bytes for each question (the section's address and the PC, 8 bytes each, little-endian), and the walks
 // (`walks`).
+mod asks;
 mod show;
 mod show_walks;
 mod walks;
@@ -12,6 +14,7 @@ mod walks;
 ghost use Prim.Native.Nat.{_+_, _<_, _≤_};
 ghost use lib.ListN.{length};
 ghost use Rattle.io.specs.Counts.{Counts};
+use crate::asks::ask_each;
 use crate::show::say;
 use crate::show::show_answer;
 use crate::show::show_question;
@@ -106,14 +109,42 @@ fn ask(section: &[u8], questions: &[u8]) {
     }
 }
 
-// Everything that is asked of one section.
-fn run(section: &[u8], questions: &[u8], walks: &[u8]) {
+// What is made of a case: its verdict with all answers, or its questions asked once more.
+enum Pass {
+    Answers,
+    Asks,
+}
+
+// Everything that is looked up in one section.
+fn run(head: &[u8], section: &[u8], questions: &[u8], walks: &[u8]) {
+    show_name(head);
     show_verdict(check(section));
     ask(section, questions);
     make_walks(section, walks);
 }
 
-fn replay(cases: &[u8]) {
+// A case without questions is not told again.
+fn run_asks(head: &[u8], section: &[u8], questions: &[u8]) {
+    if questions.len() == 0 {
+        return;
+    }
+    show_name(head);
+    say(b" asked\n");
+    ask_each(section, questions);
+}
+
+fn run_pass(pass: Pass, head: &[u8], section: &[u8], questions: &[u8], walks: &[u8]) {
+    match pass {
+        Pass::Answers => {
+            run(head, section, questions, walks);
+        }
+        Pass::Asks => {
+            run_asks(head, section, questions);
+        }
+    }
+}
+
+fn replay(pass: Pass, cases: &[u8]) {
     let mut at = 0;
     while 66 <= cases.len() - at {
         let start = at + 66;
@@ -127,8 +158,9 @@ fn replay(cases: &[u8]) {
         let first = start + length;
         let second = first + asked;
         let end = second + walked;
-        show_name(&cases[at..start]);
-        run(
+        run_pass(
+            pass,
+            &cases[at..start],
             &cases[start..first],
             &cases[first..second],
             &cases[second..end],
@@ -158,5 +190,6 @@ fn load(path: &[u8], buffer: &mut [u8]) -> usize
 fn main() {
     let mut cases = room();
     let n = load(b"cases", &mut cases);
-    replay(&cases[..n]);
+    replay(Pass::Answers, &cases[..n]);
+    replay(Pass::Asks, &cases[..n]);
 }

@@ -95,7 +95,7 @@ fn show_row(row: Row) {
     show_signed(row.signed);
 }
 
-fn show_found(row: Row, function: u64, number: u64) {
+pub fn show_found(row: Row, function: u64, number: u64) {
     say(b" found function ");
     say_number(function);
     say(b" row ");
@@ -104,7 +104,7 @@ fn show_found(row: Row, function: u64, number: u64) {
 }
 
 // A refusal with its number and the index that it carries.
-fn show_refused_at(number: u64, index: u64) {
+pub fn show_refused_at(number: u64, index: u64) {
     say(b" refused ");
     say_number(number);
     say(b" at ");

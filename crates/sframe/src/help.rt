@@ -8,6 +8,8 @@ fn show_forms() {
     say(b"    every function and row of a section, or one function by its index\n");
     say(b"sframe lookup FILE ADDRESS PC\n");
     say(b"    the function and the row for a PC\n");
+    say(b"sframe ask FILE ADDRESS PC\n");
+    say(b"    the same without a check of the whole section: only what the answer needs is read\n");
     say(b"sframe caller FILE ADDRESS STACK STACK_ADDRESS PC SP FP LR FIRST [MASK]\n");
     say(b"    the registers of the caller\n");
     say(b"sframe trace FILE ADDRESS STACK STACK_ADDRESS PC SP FP LR LIMIT [MASK]\n");

@@ -1,4 +1,5 @@
-// The program for people: it checks an `.sframe` section, lists it, looks a PC up in it, works out one caller, or walks a trace.
+// The program for people: it checks an `.sframe` section, lists it, looks a PC up in it, asks it one address, works out one caller, or walks
+// a trace.
 // Every answer is the library's; this program reads the arguments and the files, and prints.
 mod arguments;
 mod help;
@@ -18,6 +19,7 @@ use crate::help::show_help;
 use crate::list::answer_list;
 use crate::say::complain;
 use crate::show::show_answer;
+use crate::show::show_asked;
 use crate::show::show_verdict;
 use crate::version::show_version;
 use crate::walks::Sought;
@@ -33,6 +35,7 @@ enum Question {
     Check,
     List,
     Lookup,
+    Ask,
     Walks(Sought),
 }
 
@@ -78,6 +81,9 @@ fn command_of(word: &[u8]) -> Command {
     if is_same(word, b"lookup") {
         return Command::Asks(Question::Lookup);
     }
+    if is_same(word, b"ask") {
+        return Command::Asks(Question::Ask);
+    }
     if is_same(word, b"caller") {
         return Command::Asks(Question::Walks(Sought::Caller));
     }
@@ -115,6 +121,7 @@ fn has_all(question: Question, given: usize) -> bool {
         Question::Check => are_all(given, 1, b"sframe: 'check' takes FILE\n"),
         Question::List => are_enough(given, 2, b"sframe: 'list' takes FILE [INDEX]\n"),
         Question::Lookup => are_all(given, 3, b"sframe: 'lookup' takes FILE ADDRESS PC\n"),
+        Question::Ask => are_all(given, 3, b"sframe: 'ask' takes FILE ADDRESS PC\n"),
         Question::Walks(asked) => match asked {
             Sought::Caller => are_enough(
                 given,
@@ -140,11 +147,22 @@ fn answer_lookup(section: &[u8]) {
     show_answer(lookup(section, address, pc));
 }
 
+fn answer_ask(section: &[u8]) {
+    let Parsed::Number(address) = number_given(3, b"ADDRESS") else {
+        return;
+    };
+    let Parsed::Number(pc) = number_given(4, b"PC") else {
+        return;
+    };
+    show_asked(ask::land::ask(section, address, pc));
+}
+
 fn answer(question: Question, section: &[u8], given: usize) {
     match question {
         Question::Check => show_verdict(section),
         Question::List => answer_list(section, given),
         Question::Lookup => answer_lookup(section),
+        Question::Ask => answer_ask(section),
         Question::Walks(asked) => answer_walk(asked, section, given),
     }
 }

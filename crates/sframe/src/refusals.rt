@@ -40,6 +40,8 @@ fn say_meaning(number: u64) {
         41 => say(b"the stack window ends above 2^64"),
         42 => say(b"the limit is above 256"),
         43 => say(b"the buffer has fewer than 3 words for each frame of the limit"),
+        44 => { say(b"the function landed on covers the PC and breaks one of the rules 9 to 13") }
+        45 => say(b"the sorted flag is not set, and only a sorted section can be asked"),
         _ => say_rule(number),
     }
 }
@@ -87,6 +89,11 @@ pub fn show_dispute(first: u64, second: u64) {
     say(b" and ");
     say_number(second);
     say(b"\n");
+}
+
+// 21 of an asked address: nothing is said of the functions that were not landed on.
+pub fn show_not_landed() {
+    say(b"refused: 21, no function that covers the PC was landed on\n");
 }
 
 // Why a trace that was made ended.

@@ -1,5 +1,6 @@
 // Verdicts and the answers of a lookup as lines of text.
 use crate::refusals::show_dispute;
+use crate::refusals::show_not_landed;
 use crate::refusals::show_refused;
 use crate::refusals::show_refused_in;
 use crate::refusals::show_unsound;
@@ -7,6 +8,7 @@ use crate::say::say;
 use crate::say::say_number;
 use accept::section_check::check;
 use accept::verdict::Verdict;
+use ask::answer::AskAnswer;
 use lookup::answer::Answer;
 use lookup::answer::Outcome;
 use numbers::offset::Offset;
@@ -133,10 +135,49 @@ fn show_outcome(outcome: Outcome) {
     }
 }
 
+fn show_compared(compared: u64) {
+    say(b"entries compared: ");
+    say_number(compared);
+    say(b"\n");
+}
+
 pub fn show_answer(answer: Answer) {
     let outcome = answer.outcome;
     show_outcome(outcome);
-    say(b"entries compared: ");
-    say_number(answer.compared);
-    say(b"\n");
+    show_compared(answer.compared);
+}
+
+// The answer of an asked address. Nothing was compared where the header refuses.
+pub fn show_asked(answer: AskAnswer) {
+    match answer {
+        AskAnswer::Found {
+            row,
+            function,
+            number,
+            compared,
+        } => {
+            show_found(row, function, number);
+            show_compared(compared);
+        }
+        AskAnswer::Unsound(number) => {
+            show_refused(number);
+            show_compared(0);
+        }
+        AskAnswer::Unsorted => {
+            show_refused(45);
+            show_compared(0);
+        }
+        AskAnswer::NoFunction { compared } => {
+            show_not_landed();
+            show_compared(compared);
+        }
+        AskAnswer::NoRow { function, compared } => {
+            show_refused_in(23, function);
+            show_compared(compared);
+        }
+        AskAnswer::Damaged { function, compared } => {
+            show_refused_in(44, function);
+            show_compared(compared);
+        }
+    }
 }

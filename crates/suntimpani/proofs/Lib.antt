@@ -1,1 +1,2 @@
+pub mod AskLossless
 pub mod Lossless

@@ -107,7 +107,7 @@ unfolding flag
 read-flag true = refl
 read-flag false = refl
 
-read-row : (number function second compared k : ℕ) (row : Row) → readRow (flatRow number function second compared k row) ≡ row
+pub read-row : (number function second compared k : ℕ) (row : Row) → readRow (flatRow number function second compared k row) ≡ row
 unfolding readRow flatRow
 read-row number function second compared k row i =
     record {
@@ -301,7 +301,7 @@ trace-read-back s stack process registers limit old =
 
 -- ---- and equal structs come from equal answers
 
-lossless : {A B : Type 0} (flat : A → B) (read : B → A) (one other : A) → read (flat one) ≡ one → read (flat other) ≡ other
+pub lossless : {A B : Type 0} (flat : A → B) (read : B → A) (one other : A) → read (flat one) ≡ one → read (flat other) ≡ other
     → flat one ≡ flat other → one ≡ other
 lossless flat read one other back also same = sym back ∙ ap read same ∙ also
 

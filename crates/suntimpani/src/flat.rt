@@ -99,7 +99,7 @@ pub fn empty_row() -> Row
     }
 }
 
-fn flat_row(
+pub fn flat_row(
     number: u64,
     function: u64,
     second: u64,

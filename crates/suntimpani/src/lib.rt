@@ -1,9 +1,11 @@
 // The C surface, a static library: flat answers by value, nothing allocated, nothing kept.
+pub mod asks;
 pub mod flat;
 pub mod functions;
 pub mod rows;
 pub mod walks;
 
+use crate::asks::flat_asked;
 use crate::flat::AnswerInC;
 use crate::flat::VerdictInC;
 use crate::flat::flat_answer;
@@ -20,6 +22,7 @@ use crate::walks::TracedInC;
 use crate::walks::flat_step;
 use crate::walks::flat_traced;
 use accept::section_check::check;
+use ask::land::ask;
 use caller::registers::Process;
 use caller::registers::Registers;
 use listing::function::function_at;
@@ -33,8 +36,10 @@ ghost use Rattle.listing.specs.Functions.{describedOf};
 ghost use Rattle.listing.specs.computed.Reader.{placeIn};
 ghost use Rattle.listing.specs.computed.Turns.{rowTurn};
 ghost use Rattle.lookup.specs.computed.Answers.{lookupOf};
+ghost use Rattle.ask.specs.computed.Ask.{askOf};
 ghost use Rattle.caller.specs.computed.Caller.{stepIn};
 ghost use Rattle.trace.specs.computed.Trace.{traceOf};
+ghost use Rattle.suntimpani.specs.Asked.{flatAsked};
 ghost use Rattle.suntimpani.specs.Flat.{flatVerdict, flatFunction, flatAnswer, flatStep, handedAs, flatTrace};
 ghost use Rattle.suntimpani.specs.FlatRows.{flatPlace, flatTurn};
 ghost use Rattle.suntimpani.specs.Read.{readRows};
@@ -72,6 +77,13 @@ pub extern "C" fn suntimpani_lookup(section: &[u8], address: u64, pc: u64) -> An
     ensures { λ r. ⌜ r ≡ flatAnswer (lookupOf (now (section .entry)) address pc) ⌝ }
 {
     flat_answer(lookup(section, address, pc))
+}
+
+#[no_mangle]
+pub extern "C" fn suntimpani_ask(section: &[u8], address: u64, pc: u64) -> AnswerInC
+    ensures { λ r. ⌜ r ≡ flatAsked (askOf (now (section .entry)) address pc) ⌝ }
+{
+    flat_asked(ask(section, address, pc))
 }
 
 #[no_mangle]

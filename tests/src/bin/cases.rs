@@ -34,6 +34,8 @@ fn main() -> ExitCode {
 struct Made {
     cases: usize,
     questions: usize,
+    /// How many of the cases have questions.
+    asked_in: usize,
     walks: usize,
     pack: Vec<u8>,
     expected: String,
@@ -41,18 +43,26 @@ struct Made {
 
 impl Made {
     fn counts(&self) -> String {
-        format!("{} cases with {} questions and {} walks", self.cases, self.questions, self.walks)
+        let Made { cases, questions, asked_in, walks, .. } = self;
+        format!(
+            "{cases} cases with {questions} questions in {asked_in} of them, each asked in two ways, and {walks} walks"
+        )
     }
 }
 
 fn made() -> Made {
-    let mut made = Made { cases: 0, questions: 0, walks: 0, pack: Vec::new(), expected: String::new() };
-    for case in cases::all() {
-        made.pack.extend(packed(&case));
-        made.expected += &expected(&case);
+    let mut made = Made { cases: 0, questions: 0, asked_in: 0, walks: 0, pack: Vec::new(), expected: String::new() };
+    let cases = cases::all();
+    for case in &cases {
+        made.pack.extend(packed(case));
+        made.expected += &expected(case);
         made.cases += 1;
         made.questions += case.questions.len();
         made.walks += case.walks.len();
+    }
+    for case in &cases {
+        made.expected += &expected_asked(case);
+        made.asked_in += usize::from(!case.questions.is_empty());
     }
     let (stored, text) = (made.pack.len(), made.expected.len());
     assert!(stored < pack::LIMIT, "the pack has {stored} bytes, too many");
@@ -74,7 +84,7 @@ fn expected(case: &Case) -> String {
     let verdict = reader::check(&case.section);
     assert_eq!(verdict, case.expected, "{name}: the reader and the case's author disagree");
     let mut text = pack::line(name, verdict);
-    for &Question { address, pc, expected } in &case.questions {
+    for &Question { address, pc, expected, .. } in &case.questions {
         let answer = reader::lookup(&case.section, address, pc);
         assert_eq!(answer, expected, "{name} at {address:x}, PC {pc:x}: the reader and the author disagree");
         text += &pack::answer_line(address, pc, &answer);
@@ -83,6 +93,19 @@ fn expected(case: &Case) -> String {
         let walked = walk.by_reader(&case.section);
         assert_eq!(walked, *expected, "{name}, {walk:x?}: the reader and the author disagree");
         text += &pack::walk_lines(walk, &walked);
+    }
+    text
+}
+
+// The same of what is asked without a check of the whole section, behind all cases; nothing where there is no question.
+fn expected_asked(case: &Case) -> String {
+    let (name, questions) = (&case.name, &case.questions);
+    let mut text = if questions.is_empty() { String::new() } else { pack::asked_head(name) };
+    for question @ &Question { address, pc, .. } in questions {
+        let asked = reader::ask(&case.section, address, pc);
+        let expected = case.asked_of(question);
+        assert_eq!(asked, expected, "{name} asked at {address:x}, PC {pc:x}: the reader and the author disagree");
+        text += &pack::asked_line(address, pc, &asked);
     }
     text
 }
@@ -118,11 +141,17 @@ fn first_difference(stored: &[u8], made: &[u8]) -> Option<usize> {
 
 // The case that a byte of a made file belongs to.
 fn case_at(made: &Made, path: &str, at: usize) -> String {
+    let cases = cases::all();
+    let parts: Vec<usize> = if path == PACK {
+        cases.iter().map(|case| packed(case).len()).collect()
+    } else {
+        cases.iter().map(|case| expected(case).len()).chain(cases.iter().map(|c| expected_asked(c).len())).collect()
+    };
     let mut end = 0;
-    for case in cases::all() {
-        end += if path == PACK { packed(&case).len() } else { expected(&case).len() };
+    for (place, length) in parts.into_iter().enumerate() {
+        end += length;
         if at < end {
-            return case.name;
+            return cases[place % cases.len()].name.clone();
         }
     }
     format!("what follows the last of {} cases", made.cases)

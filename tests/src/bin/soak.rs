@@ -1,4 +1,5 @@
-//! Holds the library against the independent reader for as many generated sections as are asked for.
+//! Holds the library against the independent reader for as many generated sections as are asked for, and beside each of
+//! them smaller ones, which are asked single addresses.
 //!
 //!     soak COUNT              from a seed of the clock, which is printed
 //!     soak COUNT SEED         the same sections again

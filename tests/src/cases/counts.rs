@@ -51,7 +51,8 @@ fn start_of(index: usize) -> i64 {
 // From the start of the last function that has begun to just before the next: its first and last place, and those of
 // the gap behind it. Where none has begun, the place before the first function.
 fn around(section: &Section, begun: usize, compared: u64) -> Vec<Question> {
-    let at = |d: i64, expected| Question { address: ADDRESS, pc: ADDRESS.wrapping_add_signed(d), expected };
+    let at =
+        |d: i64, expected| Question { address: ADDRESS, pc: ADDRESS.wrapping_add_signed(d), expected, asked: None };
     let Some(index) = begun.checked_sub(1) else {
         return vec![at(start_of(0) - 1, no_function(compared))];
     };

@@ -89,12 +89,12 @@ fn examples(machine: Machine) -> Case {
 }
 
 fn at(address: u64, pc: u64, expected: Answer) -> Question {
-    Question { address, pc, expected }
+    Question { address, pc, expected, asked: None }
 }
 
-const ENTERED: Row =
+pub(super) const ENTERED: Row =
     Row { start: 0, base: Base::Sp, cfa_offset: 8, ra: Place::AtOffset(-8), fp: Place::Register, signed: false };
-const FRAMED: Row = Row { start: 4, base: Base::Fp, cfa_offset: 16, fp: Place::AtOffset(-16), ..ENTERED };
+pub(super) const FRAMED: Row = Row { start: 4, base: Base::Fp, cfa_offset: 16, fp: Place::AtOffset(-16), ..ENTERED };
 
 // Of two entries the second is compared first: a PC at or above its start needs no other comparison.
 fn of_s() -> Vec<Question> {

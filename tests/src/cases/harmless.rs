@@ -108,7 +108,7 @@ fn of_rows_read_twice(machine: Machine) -> Vec<Question> {
         (31, found(1, 1, row(3), 2)),
         (32, no_function(2)),
     ];
-    answers.map(|(d, expected)| Question { address: ADDRESS, pc: ADDRESS + d, expected }).to_vec()
+    answers.map(|(d, expected)| Question { address: ADDRESS, pc: ADDRESS + d, expected, asked: None }).to_vec()
 }
 
 #[cfg(test)]

@@ -1,11 +1,12 @@
 //! Questions: lookups to be made in a case's section, and the ways to state their answers.
 //!
 //! No answer comes from the reader's lookups. The author states it whole, or which function and row it is while the
-//! description of the section says what stands in that row, or it follows from the definition in `obvious`.
+//! description of the section says what stands in that row, or it follows from the definition in `obvious`. The same
+//! place is also asked without a check of the whole section; what that answers is stated, or follows from the lookup's.
 
 use crate::maker::{Section, SORTED};
 use crate::obvious::{self, described};
-use crate::reader::{Answer, Block, Function, Outcome, Row};
+use crate::reader::{Answer, Asked, AskedOutcome, Block, Function, Outcome, Row, Verdict};
 use std::collections::BTreeSet;
 
 #[derive(Clone, Copy, Debug)]
@@ -14,6 +15,33 @@ pub struct Question {
     pub address: u64,
     pub pc: u64,
     pub expected: Answer,
+    /// What asking without a check of the whole section answers; none where that follows from the rest.
+    pub asked: Option<Asked>,
+}
+
+/// What it answers by the request where the author of a section with this verdict states no more than the lookup: on an
+/// accepted sorted section the same, by its header 1 to 8 or 45, and on any other what the definition says.
+///
+/// # Panics
+/// Where the lookup's answer is none of a sorted section.
+pub(super) fn asked_by_rule(section: &[u8], verdict: Verdict, question: &Question) -> Asked {
+    let nothing_compared = |outcome| Asked { outcome, compared: 0 };
+    let Answer { outcome, compared } = question.expected;
+    match verdict {
+        Verdict::Refused { number: number @ 1..=8, .. } => nothing_compared(AskedOutcome::Unsound(number)),
+        _ if section[3] & SORTED == 0 => nothing_compared(AskedOutcome::Unsorted),
+        Verdict::Refused { .. } => obvious::ask(section, question.address, question.pc),
+        Verdict::Accepted => Asked { outcome: of_sorted(outcome), compared },
+    }
+}
+
+fn of_sorted(outcome: Outcome) -> AskedOutcome {
+    match outcome {
+        Outcome::Found { function, number, row } => AskedOutcome::Found { function, number, row },
+        Outcome::NoFunction => AskedOutcome::NoFunction,
+        Outcome::NoRow { function } => AskedOutcome::NoRow { function },
+        other => panic!("{other:?} is no answer of an accepted sorted section"),
+    }
 }
 
 pub fn found(function: u64, number: u64, row: Row, compared: u64) -> Answer {
@@ -61,7 +89,8 @@ pub fn said(section: &Section, address: u64, places: &[(i128, Said)]) -> Vec<Que
             Said::NoRow(function) => Outcome::NoRow { function },
         };
         let compared = obvious::compared(sorted, &functions, d);
-        Question { address, pc: pc_at(address, d).expect("a PC"), expected: Answer { outcome, compared } }
+        let expected = Answer { outcome, compared };
+        Question { address, pc: pc_at(address, d).expect("a PC"), expected, asked: None }
     };
     places.iter().map(ask).collect()
 }
@@ -69,7 +98,8 @@ pub fn said(section: &Section, address: u64, places: &[(i128, Said)]) -> Vec<Que
 /// Questions about places d, answered by the definition; places that no PC reaches are left out.
 pub fn defined(sorted: bool, functions: &[Function], address: u64, places: &BTreeSet<i128>) -> Vec<Question> {
     let pcs = places.iter().filter_map(|&d| pc_at(address, d));
-    pcs.map(|pc| Question { address, pc, expected: obvious::answer(sorted, functions, address, pc) }).collect()
+    let ask = |pc| Question { address, pc, expected: obvious::answer(sorted, functions, address, pc), asked: None };
+    pcs.map(ask).collect()
 }
 
 /// Questions at the PCs that only a wrapped distance would take for these places, which no PC reaches: no function

@@ -1,4 +1,4 @@
-//! How often each of the seven calls was compared, by the number that it answered with.
+//! How often each of the eight calls was compared, by the number that it answered with.
 #![forbid(unsafe_code)]
 
 use std::collections::BTreeMap;
@@ -8,13 +8,13 @@ use std::fmt;
 /// where there are no more rows: the answer has no number of its own then, or 0, as it has where there is one.
 pub const NONE: u64 = u64::MAX;
 
-/// The highest number of document 01.
-const HIGHEST: u64 = 43;
+/// The highest number.
+const HIGHEST: u64 = 45;
 
 /// How many calls there are.
-const COUNT: usize = 7;
+const COUNT: usize = 8;
 
-/// The seven calls of the library, in the order of the table's columns.
+/// The eight calls of the library, in the order of the table's columns.
 #[derive(Clone, Copy, Debug, PartialEq, Eq)]
 pub enum Call {
     Check,
@@ -22,22 +22,31 @@ pub enum Call {
     RowsOf,
     NextRow,
     Lookup,
+    Ask,
     Caller,
     Trace,
 }
 
 impl Call {
-    pub const ALL: [Call; COUNT] =
-        [Call::Check, Call::FunctionAt, Call::RowsOf, Call::NextRow, Call::Lookup, Call::Caller, Call::Trace];
+    pub const ALL: [Call; COUNT] = [
+        Call::Check,
+        Call::FunctionAt,
+        Call::RowsOf,
+        Call::NextRow,
+        Call::Lookup,
+        Call::Ask,
+        Call::Caller,
+        Call::Trace,
+    ];
 
     pub fn name(self) -> &'static str {
-        ["check", "function_at", "rows_of", "next_row", "lookup", "caller", "trace"][self as usize]
+        ["check", "function_at", "rows_of", "next_row", "lookup", "ask", "caller", "trace"][self as usize]
     }
 
     /// Whether the call may answer with a number; 0 is accepted, known, found, a row or a caller.
     pub fn gives(self, number: u64) -> bool {
         let of_section = match self {
-            Call::FunctionAt => (1..=8).contains(&number),
+            Call::FunctionAt | Call::Ask => (1..=8).contains(&number),
             Call::RowsOf | Call::NextRow => false,
             Call::Check | Call::Lookup | Call::Caller | Call::Trace => (1..=15).contains(&number),
         };
@@ -45,6 +54,7 @@ impl Call {
             Call::Check => &[0],
             Call::FunctionAt | Call::RowsOf | Call::NextRow => &[0, NONE],
             Call::Lookup => &[0, 21, 22, 23],
+            Call::Ask => &[0, 21, 23, 44, 45],
             Call::Caller => &[0, 21, 22, 23, 24, 25, 26, 27, 28, 41],
             Call::Trace => &[21, 22, 23, 24, 25, 26, 27, 28, 30, 31, 41, 42, 43],
         };
@@ -52,36 +62,44 @@ impl Call {
     }
 }
 
-/// For each number, how often each call answered with it.
+/// How often each call answered with each number, and how many twins were asked.
 #[derive(Clone, Debug, Default, PartialEq, Eq)]
-pub struct Counts(BTreeMap<u64, [u64; COUNT]>);
+pub struct Counts {
+    by_number: BTreeMap<u64, [u64; COUNT]>,
+    /// Sections that differ from one that was asked in bytes that are not named.
+    pub twins: u64,
+    /// Those of them that a lookup tells from it.
+    pub told_apart: u64,
+}
 
 impl Counts {
     pub fn count(&mut self, call: Call, number: u64) {
-        self.0.entry(number).or_default()[call as usize] += 1;
+        self.by_number.entry(number).or_default()[call as usize] += 1;
     }
 
     /// These and others together.
     pub fn with(mut self, others: &Counts) -> Counts {
-        for (number, counts) in &others.0 {
-            let sums = self.0.entry(*number).or_default();
+        for (number, counts) in &others.by_number {
+            let sums = self.by_number.entry(*number).or_default();
             sums.iter_mut().zip(counts).for_each(|(sum, count)| *sum += count);
         }
+        self.twins += others.twins;
+        self.told_apart += others.told_apart;
         self
     }
 
     /// How many calls were compared.
     pub fn calls(&self) -> u64 {
-        self.0.values().flatten().sum()
+        self.by_number.values().flatten().sum()
     }
 
     fn of(&self, call: Call, number: u64) -> u64 {
-        self.0.get(&number).map_or(0, |counts| counts[call as usize])
+        self.by_number.get(&number).map_or(0, |counts| counts[call as usize])
     }
 
     /// What a call answers with too seldom, or may never answer with and did: none where the comparison tried enough.
     pub fn lacking(&self, enough: u64) -> Vec<String> {
-        let above = self.0.keys().copied().filter(|number| (HIGHEST + 1..NONE).contains(number));
+        let above = self.by_number.keys().copied().filter(|number| (HIGHEST + 1..NONE).contains(number));
         let numbers: Vec<u64> = every_number().chain(above).collect();
         let cells = Call::ALL.into_iter().flat_map(|call| numbers.iter().map(move |number| (call, *number)));
         let lacks = |(call, number): &(Call, u64)| {
@@ -120,7 +138,7 @@ impl fmt::Display for Counts {
             self.cells(to, number)?;
         }
         write!(to, "\n   all")?;
-        let sum = |call: Call| self.0.values().map(|counts| counts[call as usize]).sum::<u64>();
+        let sum = |call: Call| self.by_number.values().map(|counts| counts[call as usize]).sum::<u64>();
         Call::ALL.iter().try_for_each(|&call| write!(to, "{:>12}", sum(call)))
     }
 }
@@ -157,7 +175,7 @@ mod tests {
         let mut counts = every_number_once().with(&every_number_once());
         assert_eq!(counts.lacking(2), Vec::<String>::new());
         counts.count(Call::Trace, 43);
-        assert_eq!(counts.lacking(3).len(), counts.0.values().flatten().filter(|&&count| count == 2).count());
+        assert_eq!(counts.lacking(3).len(), counts.by_number.values().flatten().filter(|&&count| count == 2).count());
     }
 
     #[test]
@@ -166,11 +184,21 @@ mod tests {
         counts.count(Call::Check, 21);
         counts.count(Call::FunctionAt, 9);
         counts.count(Call::NextRow, 1);
-        counts.count(Call::Lookup, 44);
+        counts.count(Call::Lookup, 46);
+        counts.count(Call::Ask, 22);
+        counts.count(Call::Ask, 9);
         counts.count(Call::Caller, NONE);
         assert_eq!(
             counts.lacking(1),
-            ["check 21: 1", "function_at 9: 1", "next_row 1: 1", "lookup 44: 1", "caller none: 1"]
+            [
+                "check 21: 1",
+                "function_at 9: 1",
+                "next_row 1: 1",
+                "lookup 46: 1",
+                "ask 9: 1",
+                "ask 22: 1",
+                "caller none: 1"
+            ]
         );
     }
 
@@ -178,14 +206,15 @@ mod tests {
     fn the_table_has_a_line_for_each_number() {
         let table = every_number_once().to_string();
         let lines: Vec<&str> = table.lines().collect();
-        assert_eq!(lines.len(), 1 + 1 + 15 + 8 + 2 + 3 + 1 + 1);
+        assert_eq!(lines.len(), 1 + 1 + 15 + 8 + 2 + 5 + 1 + 1);
         let line = |first: &str, cells: [&str; COUNT]| {
             cells.iter().fold(format!("{first:>6}"), |line, cell| format!("{line}{cell:>12}"))
         };
         assert_eq!(lines[0], line("number", Call::ALL.map(Call::name)));
-        assert_eq!(lines[1], line("0", ["1", "1", "1", "1", "1", "1", "-"]));
-        assert_eq!(lines[29], line("43", ["-", "-", "-", "-", "-", "-", "1"]));
-        assert_eq!(lines[30], line("none", ["-", "1", "1", "1", "-", "-", "-"]));
-        assert_eq!(lines[31], line("all", ["16", "10", "2", "2", "19", "25", "28"]));
+        assert_eq!(lines[1], line("0", ["1", "1", "1", "1", "1", "1", "1", "-"]));
+        assert_eq!(lines[29], line("43", ["-", "-", "-", "-", "-", "-", "-", "1"]));
+        assert_eq!(lines[30], line("44", ["-", "-", "-", "-", "-", "1", "-", "-"]));
+        assert_eq!(lines[32], line("none", ["-", "1", "1", "1", "-", "-", "-", "-"]));
+        assert_eq!(lines[33], line("all", ["16", "10", "2", "2", "19", "13", "25", "28"]));
     }
 }

@@ -1,8 +1,8 @@
-//! Seven calls of the library's form that do nothing: what they use of a stack, the form itself uses.
+//! Eight calls of the library's form that do nothing: what they use of a stack, the form itself uses.
 
 use super::{Answer, Calls, Function, Process, Registers, Row, Rows, Step, Traced, Verdict};
 
-pub const EMPTY: Calls = Calls { check, function_at, rows_of, next_row, lookup, caller, trace };
+pub const EMPTY: Calls = Calls { check, function_at, rows_of, next_row, lookup, ask, caller, trace };
 
 extern "C" fn check(_: *const u8, _: usize) -> Verdict {
     Verdict { number: 0, index: 0 }
@@ -21,6 +21,10 @@ extern "C" fn next_row(_: *const u8, _: usize, _: Rows) -> Row {
 }
 
 extern "C" fn lookup(_: *const u8, _: usize, _: u64, _: u64) -> Answer {
+    Answer::default()
+}
+
+extern "C" fn ask(_: *const u8, _: usize, _: u64, _: u64) -> Answer {
     Answer::default()
 }
 

@@ -94,10 +94,10 @@ enum Covering {
 }
 
 /// The last row whose start is low enough: its number and start, and the place of its info byte in the row area.
-struct Last {
-    number: u64,
-    start: u32,
-    info_at: usize,
+pub(super) struct Last {
+    pub(super) number: u64,
+    pub(super) start: u32,
+    pub(super) info_at: usize,
 }
 
 impl<'a> Checked<'a> {
@@ -217,7 +217,7 @@ impl Entry {
         }
     }
 
-    fn covers(&self, d: i64) -> bool {
+    pub(super) fn covers(&self, d: i64) -> bool {
         // One comparison for both ends: below the start the difference is negative, and far above every size.
         ((d - self.start) as u64) < u64::from(self.size)
     }

@@ -12,17 +12,25 @@ pub fn questions(random: &mut Random, section: &[u8]) -> Vec<(u64, u64)> {
         Verdict::Accepted => (functions(section), 12),
         Verdict::Refused { .. } => (Vec::new(), 2),
     };
-    (0..count).map(|_| question(random, &functions)).collect()
+    let near = |random: &mut Random| {
+        if functions.is_empty() {
+            random.below(0x2000) as i64
+        } else {
+            place(random, &functions)
+        }
+    };
+    (0..count).map(|_| question(random, near)).collect()
 }
 
-// A place beyond either end of the addresses gives the PC that is 2^64 away from it.
-fn question(random: &mut Random, functions: &[Function]) -> (u64, u64) {
+// At or near a place of the section, or far from it. A place beyond either end of the addresses gives the PC that is
+// 2^64 away from it.
+pub(super) fn question(random: &mut Random, near: impl FnOnce(&mut Random) -> i64) -> (u64, u64) {
     let address = match random.below(8) {
         0 => random.pick(&[0, 1, 0x1000, u64::MAX, u64::MAX - 0xfff, 1 << 63]),
         1 => random.number(),
         _ => ADDRESS,
     };
-    let near = if functions.is_empty() { random.below(0x2000) as i64 } else { place(random, functions) };
+    let near = near(random);
     let far = match random.below(16) {
         0 => random.number() as i64,
         1 => random.pick(&[1 << 32, -(1 << 32), 1 << 33, i64::MIN, i64::MAX]),

@@ -38,7 +38,7 @@ pub fn turn(seed: u64, number: u64) -> Turn {
 }
 
 // Turns of one seed share nothing with those of the next.
-fn random_of(seed: u64, number: u64) -> Random {
+pub(super) fn random_of(seed: u64, number: u64) -> Random {
     let of_seed = Random::new(seed).number();
     Random::new(Random::new(of_seed ^ number).number())
 }

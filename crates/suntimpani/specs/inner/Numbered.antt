@@ -9,6 +9,8 @@ use Rattle.listing.specs.declared.function.Described.{Described}
 use Rattle.listing.specs.declared.function.Described.the-variants as described
 use Rattle.lookup.specs.declared.answer.Outcome.{Outcome}
 use Rattle.lookup.specs.declared.answer.Outcome.the-variants as outcome
+use Rattle.ask.specs.declared.answer.AskAnswer.{AskAnswer}
+use Rattle.ask.specs.declared.answer.AskAnswer.the-variants as ask
 use Rattle.caller.specs.declared.registers.Step.{Step}
 use Rattle.caller.specs.declared.registers.Step.the-variants as step
 use Rattle.trace.specs.declared.answer.Ending.{Ending}
@@ -34,6 +36,15 @@ OutcomeNumbered (outcome.Unsound number index) = OfSection number
 OutcomeNumbered outcome.NoFunction = Unit {0}
 OutcomeNumbered (outcome.Dispute first second) = Unit {0}
 OutcomeNumbered (outcome.NoRow function) = Unit {0}
+
+-- "1 to 8"
+abbrev pub AskNumbered : AskAnswer → Type 0
+AskNumbered (ask.Found row function number compared) = Unit {0}
+AskNumbered (ask.Unsound number) = (1 ≤ number) × (number ≤ 8)
+AskNumbered ask.Unsorted = Unit {0}
+AskNumbered (ask.NoFunction compared) = Unit {0}
+AskNumbered (ask.NoRow function compared) = Unit {0}
+AskNumbered (ask.Damaged function compared) = Unit {0}
 
 -- a refusal of its own has a number above those of the section
 abbrev pub StepNumbered : Step → Type 0

@@ -16,6 +16,11 @@ const LISTED: usize = 150_000;
 
 const SIZES: [usize; 5] = [100, 1_000, 10_000, 100_000, 838_859];
 
+const MOST_BYTES: usize = 16_777_216;
+
+/// How many rows each function has in the section that is mostly rows.
+const ROWS: u32 = 18;
+
 /// A section, and what is asked of it.
 pub struct Timed {
     pub name: String,
@@ -36,9 +41,7 @@ pub const MASK: u64 = 0x007f_0000_0000_0000;
 /// Sections of every size by one construction, one that is not sorted, a large one of the corpus, one of many rows to
 /// be listed and, for the frames of a trace, three small ones; the last is as the one before it, with every row signed.
 pub fn all() -> Vec<Timed> {
-    let mut all: Vec<Timed> = SIZES.map(|count| whole(name_of(count, ""), large::many_functions(count).bytes())).into();
-    let gas = whole("GNU as: 2,689 functions".to_string(), cases::corpus_section("gas_exe"));
-    all.push(Timed { listed: true, ..gas });
+    let mut all = of_asks();
     let bytes = large::functions_of_four_rows(LISTED).bytes();
     let name = name_of(LISTED, ", 4 rows each");
     all.push(Timed { name, bytes, pcs: Vec::new(), walk: None, checked: true, listed: true });
@@ -54,6 +57,44 @@ pub fn all() -> Vec<Timed> {
     });
     all.extend(small());
     all
+}
+
+/// The sections that are asked without a check: of every size, and the large one of the corpus.
+pub fn of_asks() -> Vec<Timed> {
+    let by_size = SIZES.map(|count| whole(name_of(count, ""), large::many_functions(count).bytes()));
+    let gas = whole("GNU as: 2,689 functions".to_string(), cases::corpus_section("gas_exe"));
+    by_size.into_iter().chain([Timed { listed: true, ..gas }]).collect()
+}
+
+/// A section of the most bytes that there may be.
+pub struct Largest {
+    pub name: String,
+    pub bytes: Vec<u8>,
+}
+
+/// One that is nearly all entries, and one that is mostly rows.
+pub fn of_most_bytes() -> [Largest; 2] {
+    let count = *SIZES.last().expect("there are sizes");
+    let entries = Largest { name: name_of(count, ""), bytes: large::many_functions(count).bytes() };
+    let rows = mostly_rows();
+    let name = name_of(rows.functions.len(), &format!(", {ROWS} rows each"));
+    let both = [entries, Largest { name, bytes: rows.bytes() }];
+    assert!(both.iter().all(|largest| largest.bytes.len() == MOST_BYTES), "each has the most bytes");
+    both
+}
+
+// As many adjoining functions as there is room for, each with rows of its own, of one offset and of two in turn.
+fn mostly_rows() -> Section {
+    let rows: Vec<Row> =
+        (0..ROWS).map(|number| Row::new(3 * number, 0, &[8, -16][..1 + number as usize % 2])).collect();
+    let function_bytes = 20 + rows.iter().map(|row| row.length(1)).sum::<usize>();
+    let count = (MOST_BYTES - 28) / function_bytes;
+    let mut section = Section::new(Machine::Amd64);
+    section.flags = SORTED;
+    let start = |index| 64 * index - 0x4000_0000;
+    section.functions = (0..count as i64).map(|index| Function::new(start(index), 64, 0, rows.clone())).collect();
+    section.tail = vec![0; MOST_BYTES - 28 - count * function_bytes];
+    section
 }
 
 /// The sections in which a frame of a trace can be told: 100 functions, and the small ones.
@@ -88,8 +129,8 @@ fn name_of(count: usize, more: &str) -> String {
     format!("{digits} functions{more}")
 }
 
-// PCs all over the functions of a section, and over a hundredth of their range on both sides.
-fn pcs_over(section: &[u8], count: usize) -> Vec<u64> {
+/// PCs all over the functions of a section, and over a hundredth of their range on both sides.
+pub fn pcs_over(section: &[u8], count: usize) -> Vec<u64> {
     let functions = functions(section);
     let low = functions.iter().map(|function| function.start).min().expect("the section has functions");
     let high = functions.iter().map(|function| function.start + i64::from(function.size)).max().expect("as before");

@@ -1,4 +1,4 @@
-//! How much stack the seven calls use: each is made on a painted stack, beside an empty call of the same form, over
+//! How much stack the eight calls use: each is made on a painted stack, beside an empty call of the same form, over
 //! sections small and large, sound and damaged.
 
 use crate::sections::{small_big_endian, MASK};
@@ -75,6 +75,7 @@ impl Most {
         }
         for &(address, pc) in &turn.questions {
             self.take(Call::Lookup, |calls| discard(calls.lookup(section, address, pc)));
+            self.take(Call::Ask, |calls| discard(calls.ask(section, address, pc)));
         }
         turn.walks.iter().for_each(|walk| self.measure_walk(section, walk));
     }

@@ -102,6 +102,40 @@ fn print_rows_cells(cells: [&str; 13]) {
     println!("  {ratio:>10}  {decoding:>8}  {decoding_ratio:>10}  {libsframe:>9}  {libsframe_ratio:>16}");
 }
 
+/// What a mapped section costs that is asked many times.
+pub struct ResidentLine {
+    pub section: String,
+    pub asked: &'static str,
+    pub asks: usize,
+    /// The nanoseconds of all asks, the first time and again.
+    pub first: f64,
+    pub again: f64,
+    /// KiB, as far as the asks had come and, last, after one lookup.
+    pub resident: [usize; 5],
+}
+
+impl ResidentLine {
+    pub fn print(&self) {
+        let of_one = |nanoseconds: f64| duration(nanoseconds / self.asks as f64);
+        let [first, again] = [self.first, self.again].map(of_one);
+        let resident = self.resident.map(|kib| kib.to_string());
+        let times = [&self.section, self.asked, &duration(self.first), &first, &again];
+        print_resident_cells(times, resident.each_ref().map(String::as_str));
+    }
+}
+
+pub fn print_resident_head() {
+    let told = ["KiB: 1 ask", "100 asks", "10,000", "a million", "1 lookup"];
+    print_resident_cells(["mapped section", "PCs", "a million", "an ask", "again"], told);
+}
+
+fn print_resident_cells(cells: [&str; 5], resident: [&str; 5]) {
+    let [section, asked, all, first, again] = cells;
+    print!("{section:<31}  {asked:<9}  {all:>9}  {first:>8}  {again:>8}");
+    resident.iter().for_each(|kib| print!("  {kib:>10}"));
+    println!();
+}
+
 /// A line of a call's stack, in the library's column.
 pub fn print_stack(call: &str, calls: usize, bytes: usize) {
     let (measured, bytes) = (format!("{call}, the most of {calls} calls"), format!("{bytes} B"));

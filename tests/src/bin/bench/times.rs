@@ -113,7 +113,7 @@ pub fn of_find(timed: &Timed, libsframe: Option<&Libsframe>) -> Vec<Line> {
     vec![line("find", timed, found.map(|times| times.divided_by(pcs.len())).collect())]
 }
 
-fn is_sorted(section: &[u8]) -> bool {
+pub fn is_sorted(section: &[u8]) -> bool {
     section[3] & suntimpani_tests::maker::SORTED != 0
 }
 
@@ -190,7 +190,7 @@ fn reader_trace(section: &[u8], walk: &Walk, buffer: &mut [u64]) -> reader::Trac
 }
 
 // The library's times, the reader's and, where there are any, libsframe's.
-fn line(call: &'static str, timed: &Timed, times: Vec<Times>) -> Line {
+pub fn line(call: &'static str, timed: &Timed, times: Vec<Times>) -> Line {
     let mut times = times.into_iter();
     let (library, reader) = (times.next().expect("the library's"), times.next().expect("the reader's"));
     Line::new(call, &timed.name, library, reader, times.next())

@@ -70,8 +70,8 @@ shape-is : (c : tie.After-shape-of)
 unfolding shapeOf
 shape-is c = rw (c .before .before .before .before .before .before .before .pre .section .layout-is) at (c .shape-of .ensures)
 
-in-block-requires : tie.Need-in-block-requires
-in-block-requires c κs =
+block-offset-requires : tie.Need-block-offset-requires
+block-offset-requires c κs =
     let entry = c .before .before .before .before in
     let start = entry .before .before .before in
     rw (entry .entry-in .ensures) (entry-sound _ _ _ .0 (fault-free (start .pre)) .repeat)
@@ -91,7 +91,7 @@ returns c =
     let entry = starts .before .before in
     let start = entry .before .before .before in
     let offset = offset-held _ _ (start .pre .within) (held starts) (near (starts .before)) (small entry) in
-    rw (area-is start, shape-is shape, c .before .in-block .ensures, entry .entry-in .ensures, ← offset) at (c .scan-rows .ensures)
+    rw (area-is start, shape-is shape, c .before .block-offset .ensures, entry .entry-in .ensures, ← offset) at (c .scan-rows .ensures)
 
 pub row-for-spec : {M : Type 1} → statement M
 row-for-spec =
@@ -106,6 +106,6 @@ row-for-spec =
     part-scan-rows-start
     (λ c. search needs)
     (λ c κs. search needs)
-    in-block-requires
+    block-offset-requires
     scan-rows-requires
     returns)

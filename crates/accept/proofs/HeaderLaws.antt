@@ -6,16 +6,15 @@ use mathlib.Core.List.{List}
 use mathlib.Core.Logic.{_⊎_, inl, inr, _↔_, ⊎-elim}
 use Prim.Native.Nat.{ℕ, _≤_}
 use native.Mathlib.Omega.{arith}
-use Rattle.accept.specs.Given.{Rule, short, long, magic, version, flags, abi, fixed, sizes, entryInfo, repeatSize, rowsInside, rowInfo, rowsRising, sorted, rowSum, numberOfRule, Given}
+use Rattle.accept.specs.Given.{Rule, short, long, magic, version, flags, abi, fixed, sizes, entryInfo, repeatSize, rowsInside, rowInfo, rowsRising, sorted, rowSum, numberOfRule, Given, HeaderBreaks}
 use Rattle.accept.specs.Rules.{HeaderObeys}
 use Rattle.accept.specs.computed.Checks.{givenAt, thenTry, headerFault, entriesVerdict, verdict}
 use Rattle.accept.specs.declared.verdict.Fault.{Fault}
 use Rattle.accept.specs.declared.verdict.Fault.the-variants.{Sound, Breaks}
 use Rattle.accept.specs.declared.verdict.Verdict.the-variants.{Refused}
 use Rattle.accept.proofs.CauseLaws.{Due}
 use Rattle.accept.proofs.Exactly.{header-exactly-when, refused-by-a-rule, verdict-number, given-exactly-when}
 use Rattle.accept.proofs.FaultLaws.{sound-or-breaks}
-use Rattle.promises.specs.FunctionCall.{HeaderBreaks}
 
 -- ---- a rule that is given is one of them, or the header obeys and the rule comes later
 

@@ -1,0 +1,4 @@
+-- What only the code and its proofs speak of.
+pub mod Opened
+pub mod Parts
+pub mod Requires
