@@ -19,7 +19,8 @@ endif
 N = 1000000
 SEED =
 FROM =
-# What is timed: everything, or with TABLE=rows the finds in long functions alone, with TABLE=frames the frames of traces.
+# What is timed: everything, or with TABLE=rows the finds in long functions alone, with TABLE=frames the frames of traces, with TABLE=ask
+# single addresses of sections that nobody checked.
 TABLE =
 
 help:
@@ -29,7 +30,7 @@ help:
 	@echo "make install  put the archive, its header and a pkg-config file below PREFIX ($(PREFIX))"
 	@echo "make pc       print that pkg-config file"
 	@echo "make soak     compare the library with the reader for longer: N=$(N) sections, SEED=.. to repeat a run"
-	@echo "make bench    the library's time against the reader's, and its use of the stack; TABLE=rows or TABLE=frames for a part"
+	@echo "make bench    the library's time against the reader's, and its use of the stack; TABLE=rows, TABLE=frames or TABLE=ask for a part"
 	@echo "make cases    make the stored cases and their expected output anew, by the independent reader"
 	@echo "make reader   the independent reader by itself: its own tests, and the public dumps"
 	@echo "make fmt      lay every source and proof file out"

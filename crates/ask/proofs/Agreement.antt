@@ -1,9 +1,8 @@
 -- What an asked address rests on decides its answer: two sections of one length that agree on the bytes that the request names (`ReadBy`)
 -- get the same answer, count included, whatever else they hold and whether or not they are accepted. Assumes nothing.
 use mathlib.Core.Path.{_≡_, refl, sym, _∙_, ap}
-use mathlib.Core.Bool.{Bool, true, false}
-use mathlib.Core.List.{List, List·Memᴰ}
-use Prim.Native.Nat.{ℕ, zero, suc, _+_, _*_, _^_, _≤_, _<_}
+use mathlib.Core.List.{List}
+use Prim.Native.Nat.{ℕ, zero, suc, _+_, _*_, _≤_, _<_}
 use native.Mathlib.Omega.{arith}
 use lib.Dec.{ltb}
 use lib.IntN.{ℤ}
@@ -14,7 +13,7 @@ use Rattle.numbers.specs.Agree.{InSpan, AgreeOn}
 use Rattle.numbers.specs.Start.{distance}
 use Rattle.section.specs.Entry.{typeOf}
 use Rattle.section.specs.Header.{layoutOf}
-use Rattle.section.specs.Meaning.{areaOf, shapeOf, entryIn, functionIn, functionsOf, rowPlaceAt}
+use Rattle.section.specs.Meaning.{areaOf, shapeOf, entryIn, functionIn, functionsOf}
 use Rattle.section.specs.Row.{rowLength}
 use Rattle.section.specs.declared.entry.Entry.{Entry}
 use Rattle.section.specs.declared.shape.Shape.{Shape}
@@ -35,9 +34,9 @@ use Rattle.lookup.specs.computed.Rows.{offsetWithin, rowFor}
 use Rattle.lookup.proofs.CaseLaws.{functions-at, functions-count}
 use Rattle.lookup.proofs.CoveringLaws.{by-value}
 use Rattle.lookup.proofs.ScanAgreement.{looked-at-in-rows, last-row-agrees}
-use Rattle.ask.specs.Cases.{CanBeAsked, LandsOn, LandsIn, OwnRulesHold, countOf}
-use Rattle.ask.specs.ReadBy.{Compared, RowReached, ReadAt, of-header, of-entry, of-row, ReadBy}
-use Rattle.ask.specs.computed.Ask.{checkedRow, inFunction, whereLanded, askIn, askOf}
+use Rattle.ask.specs.Cases.{CanBeAsked, LandsIn, OwnRulesHold, countOf}
+use Rattle.ask.specs.ReadBy.{Compared, ReadAt, of-header, of-entry, of-row, ReadBy}
+use Rattle.ask.specs.computed.Ask.{checkedRow, inFunction, whereLanded, askOf}
 use Rattle.ask.proofs.CaseLaws.{landed-there, set-covers, own-rules, ask-broken, ask-unsorted, ask-landed}
 use Rattle.ask.proofs.ComparedLaws.{compared-within, landed-compared, landing-agrees}
 

@@ -13,7 +13,6 @@ use Rattle.accept.specs.Rules.{functionCount}
 use Rattle.accept.specs.computed.Checks.{verdict}
 use Rattle.accept.specs.declared.verdict.Verdict.the-variants.{Accepted}
 use Rattle.accept.proofs.AcceptedLaws.{accepted-laws}
-use Rattle.accept.proofs.Exactly.{accepted-exactly-when}
 use Rattle.lookup.specs.Halving.{emptyFunction, landing, compared}
 use Rattle.lookup.specs.Numbers.{outcomeNumber, outcomeIndexes, outcomeRow}
 use Rattle.lookup.specs.computed.Answers as look
@@ -33,7 +32,6 @@ use Rattle.lookup.proofs.SearchLaws.{search-finds-covering}
 use Rattle.ask.specs.Cases.{CanBeAsked, LandsIn, countOf}
 use Rattle.ask.specs.Numbers.{numberOfUnanswered, askNumber, askIndexes, askRow, askCompared, SameAnswer}
 use Rattle.ask.specs.computed.Ask.{withRow, askOf}
-use Rattle.ask.specs.declared.answer.AskAnswer.{AskAnswer}
 use Rattle.ask.specs.declared.answer.AskAnswer.the-variants.{NoFunction}
 use Rattle.ask.proofs.CaseLaws.{landed-there, set-covers, own-rules, ask-nowhere, ask-beside, ask-rows}
 

@@ -23,11 +23,10 @@ use Rattle.lookup.specs.Halving.{landing}
 use Rattle.lookup.specs.computed.Covering.{covers}
 use Rattle.lookup.specs.computed.Rows.{offsetWithin, lastRow, rowFor}
 use Rattle.lookup.specs.declared.rows.Scan.{Scan}
-use Rattle.lookup.specs.declared.rows.Scan.the-variants.{Missed, Hit}
 use Rattle.lookup.proofs.CaseLaws.{functions-count, none-row, last-row, rows-decided}
 use Rattle.lookup.proofs.CoveringLaws.{by-value, unless-true, is-true, covers-shows}
 use Rattle.lookup.proofs.OffsetWithinLaws.{offset-there, offset-unique}
-use Rattle.ask.specs.Cases.{CanBeAsked, LandsOn, LandsIn, OwnRulesHold, RowCase, NoRowCase, countOf, AskCase}
+use Rattle.ask.specs.Cases.{CanBeAsked, LandsOn, LandsIn, OwnRulesHold, countOf, AskCase}
 use Rattle.ask.specs.computed.Ask.{askAfter, withRow, checkedRow, inFunction, whereLanded, askIn, askOf}
 use Rattle.ask.specs.declared.answer.AskAnswer.{AskAnswer}
 use Rattle.ask.specs.declared.answer.AskAnswer.the-variants.{Found, Unsound, Unsorted, NoFunction, NoRow, Damaged}

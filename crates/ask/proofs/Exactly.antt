@@ -16,8 +16,8 @@ use Rattle.accept.proofs.CauseLaws.{Distinct, Due, due-exactly-when}
 use Rattle.accept.proofs.Exactly.{number-of-rule, by-number}
 use Rattle.lookup.specs.Cases.{Covers}
 use Rattle.lookup.specs.Numbers.{numberOfUnfound}
-use Rattle.ask.specs.Cases.{NotSorted, LandsOn, LandsIn, OwnRulesHold, RowCase, NoRowCase, DamagedCase, NoFunctionCase, AskCase, UnansweredCase, OnAsk}
-use Rattle.ask.specs.Numbers.{Unanswered, noFunction, noRow, damaged, unsorted, numberOfUnanswered, AskCause, unsound, unanswered, numberOfAskCause, askNumber, askCompared}
+use Rattle.ask.specs.Cases.{NotSorted, LandsOn, OwnRulesHold, RowCase, NoRowCase, DamagedCase, NoFunctionCase, AskCase, OnAsk}
+use Rattle.ask.specs.Numbers.{Unanswered, noFunction, noRow, damaged, unsorted, numberOfUnanswered, AskCause, unsound, unanswered, numberOfAskCause, askNumber}
 use Rattle.ask.specs.computed.Ask.{askOf}
 use Rattle.ask.specs.declared.answer.AskAnswer.{AskAnswer}
 use Rattle.ask.specs.declared.answer.AskAnswer.the-variants.{Found, Unsound, Unsorted, NoFunction, NoRow, Damaged}

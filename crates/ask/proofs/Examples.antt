@@ -1,7 +1,7 @@
 -- Addresses asked of written-out sections, each by computation: the PCs of K4 to K9 of document 01, damage in the function landed on and
 -- elsewhere, and wrong rules, each with a section on which it answers otherwise.
 -- Assumes nothing.
-use mathlib.Core.Path.{_≡_, refl, sym, _∙_, ap}
+use mathlib.Core.Path.{_≡_, refl, ap}
 use mathlib.Core.Bool.{true, false}
 use mathlib.Core.List.{List}
 use Prim.Native.Nat.{ℕ, zero, suc}
@@ -14,9 +14,8 @@ use Rattle.accept.specs.computed.Checks.{entryFault}
 use Rattle.lookup.specs.Halving.{landing}
 use Rattle.lookup.specs.computed.Covering.{covers}
 use Rattle.lookup.specs.computed.Rows.{rowFor}
-use Rattle.lookup.specs.declared.search.Landing.{Landing}
 use Rattle.ask.specs.Numbers.{askNumber}
-use Rattle.ask.specs.computed.Ask.{withRow, checkedRow, inFunction, whereLanded, askOf}
+use Rattle.ask.specs.computed.Ask.{withRow, checkedRow, inFunction, askOf}
 use Rattle.ask.specs.inner.Opened.{askOpened}
 use Rattle.ask.specs.declared.answer.AskAnswer.{AskAnswer}
 use Rattle.ask.specs.declared.answer.AskAnswer.the-variants.{Found, Unsound, Unsorted, NoFunction, NoRow, Damaged}

@@ -1,33 +1,35 @@
 -- From the walk over an entry's rows to what is sought among them: where nothing is broken, the row at which the rows at or below end is the
 -- last one at or below. Assumes nothing.
-use mathlib.Core.Path.{_≡_, refl, sym, _∙_, ap}
+use mathlib.Core.Path.{_≡_, refl}
 use mathlib.Core.Bool.{true, false}
 use mathlib.Core.List.{List}
 use Prim.Native.Nat.{ℕ, _-_, _≤_, _<_}
 use native.Mathlib.Omega.{arith}
 use lib.Dec.{eqb}
+use lib.IntN.{ℤ, _-ℤ_}
 use lib.ListN.{length}
 use borrow.Author.Tests.{eqb-true, eqb-false}
 use Rattle.section.specs.Entry.{typeOf, repeats}
 use Rattle.section.specs.Header.{bitOf}
-use Rattle.section.specs.Meaning.{areaOf, shapeOf, entryIn, blockOf}
+use Rattle.numbers.specs.inner.Held.{natural}
+use Rattle.section.specs.Meaning.{blockOf, functionStart, functionIn}
 use Rattle.section.specs.inner.Reading.{Readable}
 use Rattle.section.specs.declared.entry.Entry.{Entry}
 use Rattle.section.specs.declared.shape.Shape.{Shape}
-use Rattle.accept.specs.computed.Checks.{firstBad, andThen, entryTests, rowsFault, entryFault}
+use Rattle.accept.specs.computed.Checks.{firstBad, entryTests, rowsFault, entryFault}
 use Rattle.accept.specs.declared.verdict.Fault.{Fault}
 use Rattle.accept.specs.declared.verdict.Fault.the-variants.{Sound, Breaks}
 use Rattle.accept.proofs.Decides.{Decides, not-below, positive, none-of, where-set}
 use Rattle.accept.proofs.FaultLaws.{end, line, table-sound, and-sound}
 use Rattle.accept.proofs.RowLaws.{entry-info-decides, entry-sound}
-use Rattle.lookup.specs.computed.Rows.{inBlock, lastRow}
+use Rattle.lookup.specs.computed.Rows.{inBlock, offsetWithin, rowFor}
 use Rattle.lookup.specs.declared.rows.Scan.{Scan}
 use Rattle.lookup.specs.declared.rows.Scan.the-variants as scan
 use Rattle.lookup.specs.declared.rows.Stop.{Stop}
 use Rattle.lookup.proofs.CoveringLaws.{by-value}
 use Rattle.lookup.proofs.EntryRows.{entryStop, stop-none, stop-last, stop-readable}
-use Rattle.ask.specs.computed.Ask.{withRow, checkedRow}
-use Rattle.ask.specs.inner.Parts.{entryWrong, walkBy, walkOf, soughtAt, soughtBy, soughtIn, withSought}
+use Rattle.ask.specs.computed.Ask.{withRow, checkedRow, inFunction}
+use Rattle.ask.specs.inner.Parts.{entryWrong, walkBy, walkOf, soughtAt, soughtBy, soughtIn, withSought, pastFunction}
 use Rattle.ask.specs.declared.rows.Sought.the-variants.{Broken}
 use Rattle.ask.specs.declared.rows.Walk.the-variants.{Faulty, Whole}
 
@@ -119,8 +121,13 @@ module _ (area : List ℕ) (shape : Shape) (entry : Entry) where
 
 -- ---- what is answered by it
 
-pub sought-answer : (i compared : ℕ) (fault : Fault) (found : Scan) → withSought i compared (soughtBy fault found) ≡ checkedRow fault i compared found
+sought-answer : (i compared : ℕ) (fault : Fault) (found : Scan) → withSought i compared (soughtBy fault found) ≡ checkedRow fault i compared found
 unfolding withSought soughtBy checkedRow withRow
 sought-answer i compared (Breaks number) found = refl
 sought-answer i compared Sound scan.Missed = refl
 sought-answer i compared Sound (scan.Hit row number) = refl
+
+-- where the PC is d, it is d minus the start past it
+pub past-answer : (s : List ℕ) (d : ℤ) (i compared : ℕ) → pastFunction s i (natural (d -ℤ functionStart s i)) compared ≡ inFunction s d i compared
+unfolding pastFunction soughtIn inFunction rowFor offsetWithin functionIn
+past-answer s d i compared = sought-answer i compared _ _

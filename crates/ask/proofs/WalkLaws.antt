@@ -2,14 +2,13 @@
 -- far, and that it is where a scan of sound rows stops.
 -- Assumes nothing.
 use mathlib.Core.Path.{_≡_, refl, sym, _∙_, ap}
-use mathlib.Core.Bool.{Bool, true, false}
 use mathlib.Core.List.{List}
-use Prim.Native.Nat.{ℕ, suc, _+_, _-_, _≤_, _<_}
+use Prim.Native.Nat.{ℕ, _+_, _-_, _≤_, _<_}
 use native.Mathlib.Omega.{arith}
 use lib.Dec.{leb}
-use borrow.Author.Tests.{leb-true, leb-false, le-leb, lt-leb}
+use borrow.Author.Tests.{leb-true, leb-false}
 use Rattle.numbers.specs.declared.field.Order.{Order}
-use Rattle.section.specs.Row.{rowPlace, rowStart}
+use Rattle.section.specs.Row.{rowPlace}
 use Rattle.section.specs.declared.shape.Shape.{Shape}
 use Rattle.accept.specs.computed.Checks.{rowsFault}
 use Rattle.accept.specs.declared.verdict.Fault.the-variants.{Sound, Breaks}

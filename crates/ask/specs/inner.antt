@@ -1,4 +1,3 @@
 -- What only the code and its proofs speak of.
 pub mod Opened
 pub mod Parts
-pub mod Requires

@@ -5,22 +5,20 @@ use crate::rows::seek_row;
 use accept::header_check::check_header;
 use accept::verdict::Fault;
 use lookup::search::Landing;
-use lookup::search::covers_in;
+use lookup::search::Past;
 use lookup::search::land;
+use lookup::search::past_in;
 use lookup::table::entry_in;
-use numbers::held::near_of;
-use section::entry::start_of;
 use section::header::Layout;
 use section::header::layout_at;
 use section::header::order_at;
 use section::shape::shape_of;
 ghost use mathlib.Core.Path.{_≡_};
-ghost use Prim.Native.Nat.{_≤_};
+ghost use Prim.Native.Nat.{_≤_, _<_};
 ghost use Rattle.numbers.specs.Start.{distance};
 ghost use Rattle.lookup.specs.inner.Requires.{HeaderOf};
-ghost use Rattle.ask.specs.computed.Ask.{inFunction, whereLanded, askIn, askOf};
-ghost use Rattle.ask.specs.inner.Parts.{withSought};
-ghost use Rattle.ask.specs.inner.Requires.{LandedIn};
+ghost use Rattle.ask.specs.computed.Ask.{whereLanded, askIn, askOf};
+ghost use Rattle.ask.specs.inner.Parts.{withSought, pastFunction};
 
 fn with_sought(function: u64, compared: u64, sought: Sought) -> AskAnswer
     ensures { λ r. ⌜ r ≡ withSought function compared sought ⌝ }
@@ -43,20 +41,12 @@ fn with_sought(function: u64, compared: u64, sought: Sought) -> AskAnswer
     }
 }
 
-// Function i was landed on, and covers.
-fn in_function(
-    section: &[u8],
-    layout: Layout,
-    i: u64,
-    address: u64,
-    pc: u64,
-    compared: u64,
-) -> AskAnswer
-    requires { ⌜ LandedIn (now section) layout i (distance address pc) ⌝ }
-    ensures { λ r. ⌜ r ≡ inFunction (now (section .entry)) (distance address pc) i compared ⌝ }
+// Function i was landed on, and the PC is so far past its start.
+fn in_function(section: &[u8], layout: Layout, i: u64, past: u64, compared: u64) -> AskAnswer
+    requires { ⌜ HeaderOf (now section) layout × (i < layout .functions) ⌝ }
+    ensures { λ r. ⌜ r ≡ pastFunction (now (section .entry)) i past compared ⌝ }
 {
     let entry = entry_in(section, layout, order_at(section), i);
-    let past = near_of(address, pc) - start_of(layout.relative, entry);
     let abi = layout.abi;
     let from = layout.area as usize;
     with_sought(
@@ -82,10 +72,10 @@ fn where_landed(
     if low == 0 {
         return AskAnswer::NoFunction { compared: compared };
     }
-    if covers_in(section, layout, low - 1, address, pc) {
-        return in_function(section, layout, low - 1, address, pc, compared);
+    match past_in(section, layout, low - 1, address, pc) {
+        Past::Outside => AskAnswer::NoFunction { compared: compared },
+        Past::By(past) => in_function(section, layout, low - 1, past, compared),
     }
-    AskAnswer::NoFunction { compared: compared }
 }
 
 // The answer on a section whose header is sound.

@@ -14,11 +14,11 @@ ghost use lib.Signed.{leZ, ltZ};
 ghost use Rattle.lookup.specs.computed.Covering.{covers, covering, coverOf};
 ghost use Rattle.lookup.specs.Halving.{landing};
 ghost use Rattle.lookup.specs.inner.Requires.{TableOf, HeaderOf};
-ghost use Rattle.lookup.specs.inner.Search.{pastStart, firstWhere, landedOn, searchOf};
+ghost use Rattle.lookup.specs.inner.Search.{pastStart, pastIn, firstWhere, landedOn, searchOf};
 ghost use Rattle.numbers.specs.inner.Held.{Held, Near};
 ghost use Rattle.numbers.specs.Start.{distance};
 ghost use Rattle.section.specs.Entry.{positionAt};
-ghost use Rattle.section.specs.Meaning.{entryIn, functionIn, functionsOf, functionStart};
+ghost use Rattle.section.specs.Meaning.{Function, entryIn, functionIn, functionsOf, functionStart};
 
 // How the least field, -2^31, is held: 2^31.
 const LEAST: u64 = 0x8000_0000;
@@ -40,6 +40,12 @@ pub struct Search {
 pub struct Landing {
     pub low: u64,
     pub compared: u64,
+}
+
+// How far an address is past the start of a function that covers it, or that the function does not.
+pub enum Past {
+    Outside,
+    By(u64),
 }
 
 // ---- the fields of entry i: no other of its bytes is read
@@ -215,12 +221,29 @@ pub fn land(section: &[u8], layout: Layout, address: u64, pc: u64) -> Landing
     }
 }
 
-// Whether function i covers a PC.
-pub fn covers_in(section: &[u8], layout: Layout, i: u64, address: u64, pc: u64) -> bool
-    requires { ⌜ HeaderOf (now section) layout × (i < layout .functions) ⌝ }
-    ensures { λ r. ⌜ r ≡ covers (distance address pc) (functionIn (now (section .entry)) i) ⌝ }
+// How far d is past a start, where a function of this size covers; the start and d are held.
+fn past_within(start: u64, size: u32, d: u64) -> Past
+    ensures { λ r. ⌜ ((f : Function) (z : ℤ) → Held (f .start) start → Near z d → f .size ≡ size → r ≡ pastIn z f) ⌝ }
 {
-    covers_at(section, layout, order_at(section), i, near_of(address, pc))
+    let past = past_start(start, d);
+    if past < size as u64 {
+        return Past::By(past);
+    }
+    Past::Outside
+}
+
+// How far a PC is past the start of function i, where that covers it.
+pub fn past_in(section: &[u8], layout: Layout, i: u64, address: u64, pc: u64) -> Past
+    requires { ⌜ HeaderOf (now section) layout × (i < layout .functions) ⌝ }
+    ensures { λ r. ⌜ r ≡ pastIn (distance address pc) (functionIn (now (section .entry)) i) ⌝ }
+{
+    let order = order_at(section);
+    let start = rank_at(section, layout, order, i) + LEAST;
+    past_within(
+        start,
+        size_at(section, layout, order, i),
+        near_of(address, pc),
+    )
 }
 
 // The covering function for a PC: a sorted section is halved, any other is scanned.

@@ -1,18 +1,14 @@
 -- What is promised of an asked address holds of every call that keeps the contract of our function, and through the struct of C of every
 -- call that keeps that of our exported one; and no other call meets it. Assumes nothing.
-use mathlib.Core.Path.{_≡_, refl, sym, _∙_, ap, subst, fun-ext}
-use mathlib.Core.Bool.{true}
+use mathlib.Core.Path.{_≡_, refl, sym, ap, subst, fun-ext}
 use mathlib.Core.List.{List, []}
 use mathlib.Core.Logic.{inl, inr, ⊎-elim}
 use Prim.Native.Nat.{ℕ}
-use lib.ListN.{getD}
 use Rattle.numbers.specs.Start.{distance}
-use Rattle.section.specs.Header.{layoutOf}
 use Rattle.accept.proofs.Exactly.{accepted-exactly-when}
-use Rattle.lookup.specs.Numbers.{outcomeNumber, outcomeIndexes, outcomeRow}
 use Rattle.lookup.specs.computed.Answers.{lookupOf}
 use Rattle.lookup.specs.declared.answer.Answer.{Answer}
-use Rattle.ask.specs.Numbers.{askNumber, askIndexes, askRow, askCompared, SameAnswer}
+use Rattle.ask.specs.Numbers.{SameAnswer}
 use Rattle.ask.specs.computed.Ask.{askOf}
 use Rattle.ask.specs.declared.answer.AskAnswer.{AskAnswer}
 use Rattle.ask.proofs.Agreement.{ask-agrees}
@@ -21,9 +17,8 @@ use Rattle.ask.proofs.Exactly.{answer-exactly-when, ask-due, ask-given, number-
 use Rattle.ask.proofs.ReadLaws.{read-inside, no-row-read, at-most-428}
 use Rattle.suntimpani.specs.Asked.{flatAsked}
 use Rattle.suntimpani.specs.Flat.{flatAnswer}
-use Rattle.suntimpani.specs.declared.flat.AnswerInC.{AnswerInC}
 use Rattle.suntimpani.proofs.AskLossless.{ask-read-back}
-use Rattle.promises.specs.AskCall.{AskCall, NumberAsked, AnswerMeans, ReadsLittle, Asks, KeepsAsk, AskPromised, FlatAskCall, exportedAsk, readAsk, FlatAsks, KeepsFlatAsk, FlatAskPromised}
+use Rattle.promises.specs.AskCall.{AskCall, NumberAsked, AnswerMeans, ReadsLittle, Asks, KeepsAsk, AskPromised, FlatAskCall, exportedAsk, FlatAsks, KeepsFlatAsk, FlatAskPromised}
 use Rattle.promises.specs.Exported.{flatCalls, exported}
 use Rattle.promises.specs.computed.Ours.{ours}
 use Rattle.promises.specs.inner.Lent.{lent}

@@ -9,8 +9,8 @@ use Rattle.lookup.proofs.look.lookup.Kinds as lookup-kinds
 use Rattle.lookup.proofs.look.lookup.Reads as lookup-reads
 use Rattle.lookup.proofs.rows.scan_rows.Kinds as scan_rows-kinds
 use Rattle.lookup.proofs.rows.scan_rows.Reads as scan_rows-reads
-use Rattle.lookup.proofs.search.covers_in.Kinds as covers_in-kinds
-use Rattle.lookup.proofs.search.covers_in.Reads as covers_in-reads
+use Rattle.lookup.proofs.search.past_in.Kinds as past_in-kinds
+use Rattle.lookup.proofs.search.past_in.Reads as past_in-reads
 use Rattle.lookup.proofs.search.find.Kinds as find-kinds
 use Rattle.lookup.proofs.search.find.Reads as find-reads
 use Rattle.lookup.proofs.search.land.Kinds as land-kinds
@@ -34,8 +34,8 @@ scan_rows-determined κs a z z′ w w′ p q = (p ∙ sym q, refl)
 pub land-determined : Determined land-kinds.ps land-kinds.r land-reads.Learnt
 land-determined κs a z z′ w w′ p q = (p .0 ∙ sym (q .0), refl)
 
-pub covers_in-determined : Determined covers_in-kinds.ps covers_in-kinds.r covers_in-reads.Learnt
-covers_in-determined κs a z z′ w w′ p q = (p ∙ sym q, refl)
+pub past_in-determined : Determined past_in-kinds.ps past_in-kinds.r past_in-reads.Learnt
+past_in-determined κs a z z′ w w′ p q = (p ∙ sym q, refl)
 
 pub find-determined : Determined find-kinds.ps find-kinds.r find-reads.Learnt
 find-determined κs a z z′ w w′ p q = (p ∙ sym q, refl)

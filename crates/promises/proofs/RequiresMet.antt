@@ -37,7 +37,7 @@ use Rattle.lookup.specs.inner.Opened.{lookupOpened}
 use Rattle.lookup.proofs.look.block_offset.Reads as block_offset-reads
 use Rattle.lookup.proofs.look.look.Reads as look-reads
 use Rattle.lookup.proofs.rows.scan_rows.Reads as scan_rows-reads
-use Rattle.lookup.proofs.search.covers_in.Reads as covers_in-reads
+use Rattle.lookup.proofs.search.past_in.Reads as past_in-reads
 use Rattle.lookup.proofs.search.find.Reads as find-reads
 use Rattle.lookup.proofs.search.land.Reads as land-reads
 use Rattle.lookup.proofs.table.entry_in.Reads as entry_in-reads
@@ -189,15 +189,15 @@ unfolding lookupOpened sectionS
 land-met κs here address pc = record { sound = refl; layout-is = refl }
 
 -- both functions
-pub covers_in-met :
-    (κs : Lfts 1) (here : Lies) (i address pc : ℕ) → i < 2 → covers_in-reads.Asked κs (lent here sectionS, (layoutOf sectionS, (i, (address, (pc, tt)))))
+pub past_in-met :
+    (κs : Lfts 1) (here : Lies) (i address pc : ℕ) → i < 2 → past_in-reads.Asked κs (lent here sectionS, (layoutOf sectionS, (i, (address, (pc, tt)))))
 unfolding lookupOpened sectionS
-covers_in-met κs here i address pc inside = (record { sound = refl; layout-is = refl }, inside)
+past_in-met κs here i address pc inside = (record { sound = refl; layout-is = refl }, inside)
 
 -- its functions are plain blocks
-pub block_offset-met : (κs : Lfts 0) (past : ℕ) → block_offset-reads.Asked κs (entryIn sectionS 0, (past, tt))
+pub block_offset-met : (κs : Lfts 0) (d : ℕ) → block_offset-reads.Asked κs (entryIn sectionS 0, (d, tt))
 unfolding lookupOpened sectionS
-block_offset-met κs past repeats = absurd (false≢true repeats)
+block_offset-met κs d repeats = absurd (false≢true repeats)
 
 -- both entries
 pub entry_in-met :

@@ -62,7 +62,7 @@ use Rattle.trace.proofs.Exactly.{some-case}
 use Rattle.suntimpani.specs.Flat.{flatVerdict, kindNumber, repeatOf, noFunction, flatFacts, flatFunction, baseNumber, placeKind, placeOffset, flag, flatRow, flatAnswer, flatStep, flatTraced, handedAs, flatTrace}
 use Rattle.suntimpani.specs.FlatRows.{abiNumber, flatPlace, flatNext, flatYield, flatTurn}
 use Rattle.suntimpani.specs.Read.{readVerdict, readKind, readKnown, readFunction, readBase, readPlace, readRow, readRows, readYielded, readNext, readTurn, readOutcome, readAnswer, readStep, isDoors, readEnding, readTraced, readTrace}
-use Rattle.suntimpani.specs.Shown.{Shown, shownFacts, shownOf, known}
+use Rattle.suntimpani.specs.Shown.{shownFacts, shownOf, known}
 use Rattle.suntimpani.specs.inner.Numbered.{VerdictNumbered, DescribedNumbered, OutcomeNumbered, StepNumbered, EndingNumbered}
 
 -- ---- verdicts

@@ -1,12 +1,12 @@
 -- The rows of one entry by themselves, of a PC that is `past` the function's start, as one walk checks them and looks through them: what
--- `inFunction` says of the function's own entry comes to this (`sought-answer`).
+-- `inFunction` says of the function's own entry comes to this (`past-answer`).
 use Prim.Native.Nat.{ℕ, _-_}
 use mathlib.Core.Bool.{Bool, true, false, _&&_, _||_}
 use mathlib.Core.List.{List}
 use lib.Dec.{leb, ltb, eqb}
 use lib.ListN.{length}
 use Rattle.section.specs.Entry.{repeats}
-use Rattle.section.specs.Meaning.{listed, blockOf, rowIn}
+use Rattle.section.specs.Meaning.{listed, areaOf, shapeOf, entryIn, blockOf, rowIn}
 use Rattle.section.specs.Row.{rowOf}
 use Rattle.section.specs.declared.entry.Entry.{Entry}
 use Rattle.section.specs.declared.shape.Shape.{Shape}
@@ -61,3 +61,7 @@ unfoldable pub withSought : ℕ → ℕ → Sought → AskAnswer
 withSought i compared Broken = Damaged i compared
 withSought i compared Missed = NoRow i compared
 withSought i compared (Hit row number) = Found row i number compared
+
+-- function i, of a PC that is so far past its start
+unfoldable pub pastFunction : List ℕ → ℕ → ℕ → ℕ → AskAnswer
+pastFunction s i past compared = withSought i compared (soughtIn (areaOf s) (shapeOf s) (entryIn s i) past)

@@ -7,8 +7,8 @@ use Rattle.lookup.specs.Numbers.{outcomeNumber, outcomeIndexes, outcomeR
 use Rattle.lookup.specs.computed.Answers.{withRow, withCover, outcome, answer, answerOf, answerAfter, lookupOf, lookIn}
 use Rattle.lookup.specs.computed.Covering.{covers, coveringFrom, covering, coverOf}
 use Rattle.lookup.specs.computed.Rows.{inBlock, offsetWithin, orElse, lastRow, rowFor}
-use Rattle.lookup.specs.inner.Search.{pastStart, firstWhere, landedOn, coverBy, searchOf, leading, stopOf, startsBy, toldBy}
+use Rattle.lookup.specs.inner.Search.{pastStart, pastIn, firstWhere, landedOn, coverBy, searchOf, leading, stopOf, startsBy, toldBy}
 
 unfoldable pub lookupOpened : Unit {0}
-unfolding acceptOpened withRow withCover outcome answer answerOf answerAfter lookupOf outcomeNumber outcomeIndexes outcomeRow numberOfUnfound numberOfLookupCause covers coveringFrom covering coverOf findingOf lookIn halve emptyFunction startsAtMost landing compared inBlock offsetWithin orElse lastRow rowFor pastStart firstWhere landedOn coverBy searchOf leading stopOf startsBy toldBy
+unfolding acceptOpened withRow withCover outcome answer answerOf answerAfter lookupOf outcomeNumber outcomeIndexes outcomeRow numberOfUnfound numberOfLookupCause covers coveringFrom covering coverOf findingOf lookIn halve emptyFunction startsAtMost landing compared inBlock offsetWithin orElse lastRow rowFor pastStart pastIn firstWhere landedOn coverBy searchOf leading stopOf startsBy toldBy
 lookupOpened = tt

@@ -5,8 +5,9 @@ use Prim.Native.Nat.{ℕ, zero, suc, _+_, _-_, _^_}
 use mathlib.Core.Bool.{Bool, true, false}
 use mathlib.Core.List.{List}
 use lib.Dec.{leb}
-use lib.IntN.{ℤ}
+use lib.IntN.{ℤ, _-ℤ_}
 use lib.ListN.{getD}
+use Rattle.numbers.specs.inner.Held.{natural}
 use Rattle.numbers.specs.declared.field.Order.{Order}
 use Rattle.section.specs.Meaning.{Function}
 use Rattle.section.specs.Row.{offsetsLength, rowPlace, rowStart}
@@ -16,6 +17,8 @@ use Rattle.lookup.specs.declared.rows.Stop.{Stop}
 use Rattle.lookup.specs.declared.rows.Told.{Told}
 use Rattle.lookup.specs.declared.search.Cover.{Cover}
 use Rattle.lookup.specs.declared.search.Cover.the-variants.{Nobody, One}
+use Rattle.lookup.specs.declared.search.Past.{Past}
+use Rattle.lookup.specs.declared.search.Past.the-variants.{Outside, By}
 use Rattle.lookup.specs.declared.search.Search.{Search}
 
 -- ---- functions
@@ -23,6 +26,10 @@ use Rattle.lookup.specs.declared.search.Search.{Search}
 -- how far d is past a start, as both are held: before the start it is 2 ^ 64 less what is missing, farther than any size
 unfoldable pub pastStart : ℕ → ℕ → ℕ
 pastStart start d = elim (leb start d) [ true ↦ d - start | false ↦ d + 2 ^ 64 - start ]
+
+-- how far d is past the start of a function, where it covers
+unfoldable pub pastIn : ℤ → Function → Past
+pastIn d f = elim (covers d f) [ true ↦ By (natural (d -ℤ f .start)) | false ↦ Outside ]
 
 -- the first index, of `left` from i on, of which a test is true, and one past the last where there is none
 unfoldable pub firstWhere : (ℕ → Bool) → ℕ → ℕ → ℕ

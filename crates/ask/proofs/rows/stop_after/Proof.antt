@@ -1,6 +1,5 @@
 -- `rows::stop_after` compares the start with o.
 -- Assumes nothing.
-use borrow.Author.Needs.{needs}
 use borrow.Author.Tests.{le-leb, lt-leb}
 use Rattle.ask.specs.inner.Parts.{stopAfter}
 use Rattle.ask.proofs.rows.stop_after.Statement.{statement}
