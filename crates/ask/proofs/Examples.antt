@@ -52,7 +52,7 @@ K9 : askOf unsortedS 0x400000 0x40101f ≡ Unsorted
 unfolding askOpened sectionS overlappingS unsortedS
 K9 = refl
 
--- header faults: no version 3, and none of a section of no bytes
+-- a header fault
 version-3 : askOf (set sectionS 2 0x03) 0x400000 0x401003 ≡ Unsound 4
 unfolding askOpened sectionS
 version-3 = refl
