@@ -34,7 +34,7 @@ use Rattle.lookup.specs.computed.Rows.{offsetWithin, rowFor}
 use Rattle.lookup.proofs.CaseLaws.{functions-at, functions-count}
 use Rattle.lookup.proofs.CoveringLaws.{by-value}
 use Rattle.lookup.proofs.ScanAgreement.{looked-at-in-rows, last-row-agrees}
-use Rattle.ask.specs.Cases.{CanBeAsked, LandsIn, OwnRulesHold, countOf}
+use Rattle.ask.specs.Cases.{CanBeAsked, LandsIn, OwnRulesHold, comparedIn}
 use Rattle.ask.specs.ReadBy.{Compared, ReadAt, of-header, of-entry, of-row, ReadBy}
 use Rattle.ask.specs.computed.Ask.{checkedRow, inFunction, whereLanded, askOf}
 use Rattle.ask.proofs.CaseLaws.{landed-there, set-covers, own-rules, ask-broken, ask-unsorted, ask-landed}
@@ -204,7 +204,7 @@ module _ (s t : List ℕ) (address pc : ℕ) (long : length s ≡ length t) (sam
     one-asked : askOf s address pc ≡ askOf t address pc
     one-asked =
         ask-landed s address pc asked
-        ∙ one-where (countOf s d) (landing d (functionsOf s) .low) refl
+        ∙ one-where (comparedIn s d) (landing d (functionsOf s) .low) refl
         ∙ ap (λ l. whereLanded t d (l .compared) (l .low)) one-landing
         ∙ sym (ask-landed t address pc also-asked)
 

@@ -29,7 +29,7 @@ use Rattle.lookup.specs.inner.Search.{landedOn, coverBy}
 use Rattle.lookup.proofs.CaseLaws.{functions-at}
 use Rattle.lookup.proofs.CoveringLaws.{by-value}
 use Rattle.lookup.proofs.SearchLaws.{search-finds-covering}
-use Rattle.ask.specs.Cases.{CanBeAsked, LandsIn, countOf}
+use Rattle.ask.specs.Cases.{CanBeAsked, LandsIn, comparedIn}
 use Rattle.ask.specs.Numbers.{numberOfUnanswered, askNumber, askIndexes, askRow, askCompared, SameAnswer}
 use Rattle.ask.specs.computed.Ask.{withRow, askOf}
 use Rattle.ask.specs.declared.answer.AskAnswer.the-variants.{NoFunction}
@@ -44,7 +44,7 @@ module _ (s : List ℕ) (accepted : verdict s ≡ Accepted) (sorted : layoutOf s
 
   -- a lookup's answer with the count of the halving
   abbrev counted : Outcome → Answer
-  counted o = record { outcome = o; compared = countOf s d }
+  counted o = record { outcome = o; compared = comparedIn s d }
 
   -- what a lookup finds is what covers of the function landed on
   one-cover : coverOf (covering d (functionsOf s)) ≡ landedOn d (functionsOf s) (landing d (functionsOf s) .low)
@@ -74,11 +74,11 @@ module _ (s : List ℕ) (accepted : verdict s ≡ Accepted) (sorted : layoutOf s
       ap (withCover d (functionsOf s)) none
 
   nothing-found : withCover d (functionsOf s) (landedOn d (functionsOf s) (landing d (functionsOf s) .low)) ≡ outcome.NoFunction
-      → askOf s address pc ≡ NoFunction (countOf s d) → SameAnswer (askOf s address pc) (lookupOf s address pc)
+      → askOf s address pc ≡ NoFunction (comparedIn s d) → SameAnswer (askOf s address pc) (lookupOf s address pc)
   unfolding askNumber askIndexes askRow askCompared numberOfUnanswered outcomeNumber outcomeIndexes outcomeRow
   nothing-found none asked = rw (asked, looked, none) (record { number = refl; indexes = refl; row = refl; compared = refl })
 
-  one-row : (i : ℕ) (scan : Scan) → SameAnswer (withRow i (countOf s d) scan) (counted (look.withRow i scan))
+  one-row : (i : ℕ) (scan : Scan) → SameAnswer (withRow i (comparedIn s d) scan) (counted (look.withRow i scan))
   unfolding withRow look.withRow askNumber askIndexes askRow askCompared numberOfUnanswered outcomeNumber outcomeIndexes outcomeRow
   one-row i Missed = record { number = refl; indexes = refl; row = refl; compared = refl }
   one-row i (Hit row number) = record { number = refl; indexes = refl; row = refl; compared = refl }

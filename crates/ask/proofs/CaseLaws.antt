@@ -26,7 +26,7 @@ use Rattle.lookup.specs.declared.rows.Scan.{Scan}
 use Rattle.lookup.proofs.CaseLaws.{functions-count, none-row, last-row, rows-decided}
 use Rattle.lookup.proofs.CoveringLaws.{by-value, unless-true, is-true, covers-shows}
 use Rattle.lookup.proofs.OffsetWithinLaws.{offset-there, offset-unique}
-use Rattle.ask.specs.Cases.{CanBeAsked, LandsOn, LandsIn, OwnRulesHold, countOf, AskCase}
+use Rattle.ask.specs.Cases.{CanBeAsked, LandsOn, LandsIn, OwnRulesHold, comparedIn, AskCase}
 use Rattle.ask.specs.computed.Ask.{askAfter, withRow, checkedRow, inFunction, whereLanded, askIn, askOf}
 use Rattle.ask.specs.declared.answer.AskAnswer.{AskAnswer}
 use Rattle.ask.specs.declared.answer.AskAnswer.the-variants.{Found, Unsound, Unsorted, NoFunction, NoRow, Damaged}
@@ -81,38 +81,38 @@ module _ (s : List ℕ) (address pc : ℕ) where
   unfolding askIn
   ask-unsorted obeys unset = ask-sound obeys ∙ (rw (unset, askIn))
 
-  pub ask-landed : CanBeAsked s → askOf s address pc ≡ whereLanded s d (countOf s d) (landing d (functionsOf s) .low)
+  pub ask-landed : CanBeAsked s → askOf s address pc ≡ whereLanded s d (comparedIn s d) (landing d (functionsOf s) .low)
   unfolding askIn
   ask-landed asked = ask-sound (asked .0) ∙ (rw (asked .1, askIn))
 
-  pub ask-nowhere : CanBeAsked s → landing d (functionsOf s) .low ≡ 0 → askOf s address pc ≡ NoFunction (countOf s d)
+  pub ask-nowhere : CanBeAsked s → landing d (functionsOf s) .low ≡ 0 → askOf s address pc ≡ NoFunction (comparedIn s d)
   unfolding whereLanded
   ask-nowhere asked none = ask-landed asked ∙ (rw none)
 
-  pub ask-beside : CanBeAsked s → (i : ℕ) → LandsOn s d i → covers d (functionIn s i) ≡ false → askOf s address pc ≡ NoFunction (countOf s d)
+  pub ask-beside : CanBeAsked s → (i : ℕ) → LandsOn s d i → covers d (functionIn s i) ≡ false → askOf s address pc ≡ NoFunction (comparedIn s d)
   unfolding whereLanded
   ask-beside asked i landed unset = ask-landed asked ∙ (rw landed (rw (unset, whereLanded)))
 
-  pub ask-inside : (i : ℕ) → LandsIn s d i → askOf s address pc ≡ inFunction s d i (countOf s d)
+  pub ask-inside : (i : ℕ) → LandsIn s d i → askOf s address pc ≡ inFunction s d i (comparedIn s d)
   unfolding whereLanded
   ask-inside i lands = ask-landed (lands .asked) ∙ (rw (lands .landed) (rw (covers-set s d i (lands .covered), whereLanded)))
 
-  pub ask-damaged : (i : ℕ) → LandsIn s d i → ¬ OwnRulesHold s i → askOf s address pc ≡ Damaged i (countOf s d)
+  pub ask-damaged : (i : ℕ) → LandsIn s d i → ¬ OwnRulesHold s i → askOf s address pc ≡ Damaged i (comparedIn s d)
   unfolding inFunction checkedRow
   ask-damaged i lands broken = ask-inside i lands ∙ by (entryFault (areaOf s) (shapeOf s) (entryIn s i)) refl
     where
-      by : (fault : Fault) → entryFault (areaOf s) (shapeOf s) (entryIn s i) ≡ fault → inFunction s d i (countOf s d) ≡ Damaged i (countOf s d)
+      by : (fault : Fault) → entryFault (areaOf s) (shapeOf s) (entryIn s i) ≡ fault → inFunction s d i (comparedIn s d) ≡ Damaged i (comparedIn s d)
       by Sound is = absurd (broken (own-rules s i .0 is))
       by (Breaks number) is = rw is
 
-  pub ask-rows : (i : ℕ) → LandsIn s d i → OwnRulesHold s i → askOf s address pc ≡ withRow i (countOf s d) (rowFor d (functionIn s i))
+  pub ask-rows : (i : ℕ) → LandsIn s d i → OwnRulesHold s i → askOf s address pc ≡ withRow i (comparedIn s d) (rowFor d (functionIn s i))
   unfolding inFunction checkedRow
   ask-rows i lands sound = ask-inside i lands ∙ (rw (own-rules s i .1 sound))
 
   by-scan : (i o : ℕ) {scan : Scan} → LandsIn s d i → OwnRulesHold s i → OffsetIs s d i o → lastRow o 0 (functionIn s i .rows) ≡ scan
-      → askOf s address pc ≡ withRow i (countOf s d) scan
+      → askOf s address pc ≡ withRow i (comparedIn s d) scan
   unfolding rowFor
-  by-scan i o lands sound offset e = ask-rows i lands sound ∙ ap (withRow i (countOf s d)) (rw (← offset-unique offset) e)
+  by-scan i o lands sound offset e = ask-rows i lands sound ∙ ap (withRow i (comparedIn s d)) (rw (← offset-unique offset) e)
 
   -- ---- each case makes its answer
 
@@ -125,7 +125,7 @@ module _ (s : List ℕ) (address pc : ℕ) where
   case-given Unsorted (obeys, unset) = ask-unsorted obeys unset
   case-given (NoFunction compared) (case, counted) = by (landing d (functionsOf s) .low) refl ∙ ap NoFunction (sym counted)
     where
-      by : (low : ℕ) → landing d (functionsOf s) .low ≡ low → askOf s address pc ≡ NoFunction (countOf s d)
+      by : (low : ℕ) → landing d (functionsOf s) .low ≡ low → askOf s address pc ≡ NoFunction (comparedIn s d)
       by zero is = ask-nowhere (case .asked) is
       by (suc i) is =
           ask-beside (case .asked) i is
@@ -144,9 +144,9 @@ module _ (s : List ℕ) (address pc : ℕ) where
       let o = offsetWithin d (functionIn s i) in
       let offset = offset-there s d i (sound .rule10) (lands .covered) in
       ⊎-elim
-      (λ none. (NoRow i (countOf s d), (record { lands = lands; sound = sound; offset = o; offset-is = offset; none = none }, refl)))
+      (λ none. (NoRow i (comparedIn s d), (record { lands = lands; sound = sound; offset = o; offset-is = offset; none = none }, refl)))
       (λ last.
-      (Found _ i (last .0) (countOf s d), (record { lands = lands; sound = sound; offset = o; offset-is = offset; last = last .1; row-is = refl }, refl)))
+      (Found _ i (last .0) (comparedIn s d), (record { lands = lands; sound = sound; offset = o; offset-is = offset; last = last .1; row-is = refl }, refl)))
       (rows-decided s i o)
 
   inside-told : (i : ℕ) → LandsIn s d i → Decided
@@ -155,10 +155,10 @@ module _ (s : List ℕ) (address pc : ℕ) where
       by : (fault : Fault) → entryFault (areaOf s) (shapeOf s) (entryIn s i) ≡ fault → Decided
       by Sound is = rows-told i lands (own-rules s i .0 is)
       by (Breaks number) is =
-          (Damaged i (countOf s d), (record { lands = lands; broken = λ sound. sound-or-breaks (sym (own-rules s i .1 sound) ∙ is) }, refl))
+          (Damaged i (comparedIn s d), (record { lands = lands; broken = λ sound. sound-or-breaks (sym (own-rules s i .1 sound) ∙ is) }, refl))
 
   nothing-told : CanBeAsked s → ((i : ℕ) → LandsOn s d i → ¬ Covers s d i) → Decided
-  nothing-told asked none = (NoFunction (countOf s d), (record { asked = asked; none = none }, refl))
+  nothing-told asked none = (NoFunction (comparedIn s d), (record { asked = asked; none = none }, refl))
 
   landed-told : CanBeAsked s → (low : ℕ) → landing d (functionsOf s) .low ≡ low → Decided
   landed-told asked zero is = nothing-told asked (λ i landed. absurd (omega (arith, sym is ∙ landed)))

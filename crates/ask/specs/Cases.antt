@@ -77,17 +77,17 @@ pub record NoFunctionCase (s : List ℕ) (d : ℤ) : Type 0 where
 -- ---- every answer
 
 -- "the count"
-abbrev pub countOf : List ℕ → ℤ → ℕ
-countOf s d = landing d (functionsOf s) .compared
+abbrev pub comparedIn : List ℕ → ℤ → ℕ
+comparedIn s d = landing d (functionsOf s) .compared
 
 -- what holds of s and d where this is the answer
 abbrev pub AskCase : List ℕ → ℤ → AskAnswer → Type 0
-AskCase s d (Found row i k compared) = RowCase s d row i k × (compared ≡ countOf s d)
+AskCase s d (Found row i k compared) = RowCase s d row i k × (compared ≡ comparedIn s d)
 AskCase s d (Unsound number) = (rule : Rule) × (number ≡ numberOfRule rule) × HeaderBreaks s rule
 AskCase s d Unsorted = NotSorted s
-AskCase s d (NoFunction compared) = NoFunctionCase s d × (compared ≡ countOf s d)
-AskCase s d (NoRow i compared) = NoRowCase s d i × (compared ≡ countOf s d)
-AskCase s d (Damaged i compared) = DamagedCase s d i × (compared ≡ countOf s d)
+AskCase s d (NoFunction compared) = NoFunctionCase s d × (compared ≡ comparedIn s d)
+AskCase s d (NoRow i compared) = NoRowCase s d i × (compared ≡ comparedIn s d)
+AskCase s d (Damaged i compared) = DamagedCase s d i × (compared ≡ comparedIn s d)
 
 -- ---- every number
 

@@ -18,8 +18,8 @@ use Rattle.ask.specs.Compared.{entriesCompared}
 abbrev pub Compared : List ℕ → ℤ → ℕ → Type 0
 Compared s d i = List·Memᴰ i (entriesCompared d (functionsOf s))
 
--- row k of function i is reached: its entry breaks nothing before its rows, and no row before k has a fault
-pub record RowReached (s : List ℕ) (i k : ℕ) : Type 0 where
+-- row k of function i is one of those up to and with the first faulty one: its entry breaks nothing before its rows, and no row before k does
+pub record RowUpToFault (s : List ℕ) (i k : ℕ) : Type 0 where
   pub rule9 : Rule9 s i
   pub rule10 : Rule10 s i
   pub first : Rule11First s i
@@ -37,14 +37,14 @@ pub data ReadAt (s : List ℕ) (d : ℤ) (p : ℕ) : Type 0 where
   -- 20 of each entry compared
   of-entry : CanBeAsked s → (i : ℕ) → Compared s d i → InSpan (layoutOf s .table + 20 * i) 20 p → ReadAt s d p
   -- where the function landed on covers, its rows up to and with the first faulty one, as far as they lie inside
-  of-row : (i k : ℕ) → LandsIn s d i → RowReached s i k → InRow s i k p → p < length s → ReadAt s d p
+  of-row : (i k : ℕ) → LandsIn s d i → RowUpToFault s i k → InRow s i k p → p < length s → ReadAt s d p
 
 abbrev pub ReadBy : List ℕ → ℕ → ℕ → ℕ → Type 0
 ReadBy s address pc p = ReadAt s (distance address pc) p
 
 -- place p is one of the rows of the function landed on
 abbrev pub InLandedRows : List ℕ → ℤ → ℕ → Type 0
-InLandedRows s d p = (i : ℕ) × (k : ℕ) × LandsIn s d i × RowReached s i k × InRow s i k p
+InLandedRows s d p = (i : ℕ) × (k : ℕ) × LandsIn s d i × RowUpToFault s i k × InRow s i k p
 
 -- all places read but those rows are in a list of at most so many
 pub record AtMostBesideRows (s : List ℕ) (d : ℤ) (most : ℕ) : Type 0 where
