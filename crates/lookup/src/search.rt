@@ -207,12 +207,12 @@ pub fn land(section: &[u8], layout: Layout, address: u64, pc: u64) -> Landing
     let mut high = layout.functions as u64;
     let mut compared = 0;
     while low < high {
-        let middle = (low + high) / 2;
+        let half = (low + high) / 2;
         compared = compared + 1;
-        if rank_at(section, layout, order, middle) < bound {
-            low = middle + 1;
+        if rank_at(section, layout, order, half) < bound {
+            low = half + 1;
         } else {
-            high = middle;
+            high = half;
         }
     }
     Landing {

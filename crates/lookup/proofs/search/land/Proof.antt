@@ -31,8 +31,8 @@ bound-is : (c : tie.After-bound-of Inv-loop μ-loop)
     → c .bound-of .result ≡ near (distance (c .before .before .before .before .args .address) (c .before .before .before .before .args .pc)) + 1 - 2 ^ 31
 bound-is c = rw (c .before .near-of .ensures) at (c .bound-of .ensures)
 
-add-middle : tie.Need-add-middle Inv-loop μ-loop
-add-middle c =
+add-half : tie.Need-add-half Inv-loop μ-loop
+add-half c =
     let loop = c .before .loop in
     omega (arith, loop .inv .ordered, loop .inv .within, loop .inv .few)
 
@@ -81,7 +81,7 @@ land-spec =
     (λ c κs. search needs)
     (λ c. search needs)
     loop-holds
-    add-middle
+    add-half
     add-compared
     rank-at-requires
     add-low
