@@ -118,7 +118,7 @@ module _ (s : List ℕ) (address pc : ℕ) where
 
   pub case-given : (answer : AskAnswer) → AskCase s d answer → askOf s address pc ≡ answer
   unfolding withRow
-  case-given (Found row i k compared) (case, counted) =
+  case-given (Found i compared k row) (case, counted) =
       by-scan i (case .offset) (case .lands) (case .sound) (case .offset-is) (last-row s i (case .offset) k (case .last))
       ∙ (rw (counted, case .row-is))
   case-given (Unsound number) (rule, is, breaks) = ask-broken number (header-number s rule breaks ∙ ap Breaks (sym is))
@@ -146,7 +146,7 @@ module _ (s : List ℕ) (address pc : ℕ) where
       ⊎-elim
       (λ none. (NoRow i (comparedIn s d), (record { lands = lands; sound = sound; offset = o; offset-is = offset; none = none }, refl)))
       (λ last.
-      (Found _ i (last .0) (comparedIn s d), (record { lands = lands; sound = sound; offset = o; offset-is = offset; last = last .1; row-is = refl }, refl)))
+      (Found i (comparedIn s d) (last .0) _, (record { lands = lands; sound = sound; offset = o; offset-is = offset; last = last .1; row-is = refl }, refl)))
       (rows-decided s i o)
 
   inside-told : (i : ℕ) → LandsIn s d i → Decided

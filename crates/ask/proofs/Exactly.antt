@@ -92,7 +92,7 @@ module _ (s : List ℕ) (address pc : ℕ) where
   found-or-cause = by (askOf s address pc) (some-case s address pc)
     where
       by : (answer : AskAnswer) → AskCase s d answer → FoundOrCause (askNumber answer)
-      by (Found row i k compared) (case, counted) = inl (refl, (row, i, k, case))
+      by (Found i compared k row) (case, counted) = inl (refl, (row, i, k, case))
       by (Unsound other) (rule, is, breaks) = inr (unsound rule, is, breaks)
       by Unsorted case = inr (unanswered unsorted, refl, case)
       by (NoFunction compared) (case, counted) = inr (unanswered noFunction, refl, case)
@@ -137,7 +137,7 @@ module _ (s : List ℕ) (address pc : ℕ) where
   number-0-exactly-when = (
     λ none.
         ⊎-elim (λ found. found .1) (λ due. absurd (omega (arith, none, due .1, ask-distinct .above-0 (due .0)))) found-or-cause,
-    λ h. let (row, i, k, case) = h in ap askNumber (case-given s address pc (Found row i k _) (case, refl)),
+    λ h. let (row, i, k, case) = h in ap askNumber (case-given s address pc (Found i _ k row) (case, refl)),
   )
 
   -- ---- and no other: "It never answers 22", nor 9 to 15
@@ -171,9 +171,9 @@ module _ (s : List ℕ) (address pc : ℕ) where
   -- ---- what an answer is worth on a section that may not be accepted: it speaks of the function landed on alone
 
   -- a row: that function covers and obeys 9 to 13
-  pub row-means : (row : Row) (i k compared : ℕ) → askOf s address pc ≡ Found row i k compared → LandsOn s d i × Covers s d i × OwnRulesHold s i
+  pub row-means : (row : Row) (i k compared : ℕ) → askOf s address pc ≡ Found i compared k row → LandsOn s d i × Covers s d i × OwnRulesHold s i
   row-means row i k compared is =
-      let case = answer-exactly-when (Found row i k compared) .0 is .0 in
+      let case = answer-exactly-when (Found i compared k row) .0 is .0 in
       (case .lands .landed, case .lands .covered, case .sound)
 
   -- 23: the same

@@ -22,11 +22,11 @@ use Rattle.ask.specs.declared.answer.AskAnswer.the-variants.{Found, Unso
 
 -- ---- "Loaded at 0x400000": in S, which is accepted and sorted, as a lookup
 
-K4 : askOf sectionS 0x400000 0x401003 ≡ Found atEntry 0 0 2
+K4 : askOf sectionS 0x400000 0x401003 ≡ Found 0 2 0 atEntry
 unfolding askOpened sectionS atEntry
 K4 = refl
 
-K5 : askOf sectionS 0x400000 0x40101f ≡ Found withFrame 0 1 2
+K5 : askOf sectionS 0x400000 0x40101f ≡ Found 0 2 1 withFrame
 unfolding askOpened sectionS withFrame
 K5 = refl
 
@@ -38,12 +38,12 @@ K6-after : askOf sectionS 0x400000 0x401020 ≡ NoFunction 2
 unfolding askOpened sectionS
 K6-after = refl
 
-K7 : askOf sectionS 0x400000 0x401040 ≡ Found atEntry 1 0 1
+K7 : askOf sectionS 0x400000 0x401040 ≡ Found 1 1 0 atEntry
 unfolding askOpened sectionS atEntry
 K7 = refl
 
 -- K8 is refused with 14, and two functions cover: the answer speaks of the one landed on
-K8 : askOf overlappingS 0x400000 0x40101f ≡ Found atEntry 1 0 1
+K8 : askOf overlappingS 0x400000 0x40101f ≡ Found 1 1 0 atEntry
 unfolding askOpened sectionS overlappingS atEntry
 K8 = refl
 
@@ -82,7 +82,7 @@ unfolding askOpened sectionS damagedEntry
 damaged-beside = refl
 
 -- and of another function nothing is said
-damaged-elsewhere : askOf damagedEntry 0x400000 0x401040 ≡ Found atEntry 1 0 1
+damaged-elsewhere : askOf damagedEntry 0x400000 0x401040 ≡ Found 1 1 0 atEntry
 unfolding askOpened sectionS damagedEntry atEntry
 damaged-elsewhere = refl
 

@@ -82,7 +82,7 @@ comparedIn s d = landing d (functionsOf s) .compared
 
 -- what holds of s and d where this is the answer
 abbrev pub AskCase : List ℕ → ℤ → AskAnswer → Type 0
-AskCase s d (Found row i k compared) = RowCase s d row i k × (compared ≡ comparedIn s d)
+AskCase s d (Found i compared k row) = RowCase s d row i k × (compared ≡ comparedIn s d)
 AskCase s d (Unsound number) = (rule : Rule) × (number ≡ numberOfRule rule) × HeaderBreaks s rule
 AskCase s d Unsorted = NotSorted s
 AskCase s d (NoFunction compared) = NoFunctionCase s d × (compared ≡ comparedIn s d)

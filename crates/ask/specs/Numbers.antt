@@ -39,7 +39,7 @@ numberOfAskCause (unanswered why) = numberOfUnanswered why
 
 -- 0 where a row was found, else the number of the cause
 unfoldable pub askNumber : AskAnswer → ℕ
-askNumber (Found row function number compared) = 0
+askNumber (Found function compared number row) = 0
 askNumber (Unsound number) = number
 askNumber Unsorted = numberOfUnanswered unsorted
 askNumber (NoFunction compared) = numberOfUnanswered noFunction
@@ -48,7 +48,7 @@ askNumber (Damaged function compared) = numberOfUnanswered damaged
 
 -- the index of the function landed on, where it covers
 unfoldable pub askIndexes : AskAnswer → List ℕ
-askIndexes (Found row function number compared) = function ∷ []
+askIndexes (Found function compared number row) = function ∷ []
 askIndexes (Unsound number) = []
 askIndexes Unsorted = []
 askIndexes (NoFunction compared) = []
@@ -57,7 +57,7 @@ askIndexes (Damaged function compared) = function ∷ []
 
 -- the row and its number in the function, where one was found
 unfoldable pub askRow : AskAnswer → List (ℕ × Row)
-askRow (Found row function number compared) = (number, row) ∷ []
+askRow (Found function compared number row) = (number, row) ∷ []
 askRow (Unsound number) = []
 askRow Unsorted = []
 askRow (NoFunction compared) = []
@@ -66,7 +66,7 @@ askRow (Damaged function compared) = []
 
 -- the number of entries compared: "all with count 0" where nothing was
 unfoldable pub askCompared : AskAnswer → ℕ
-askCompared (Found row function number compared) = compared
+askCompared (Found function compared number row) = compared
 askCompared (Unsound number) = 0
 askCompared Unsorted = 0
 askCompared (NoFunction compared) = compared

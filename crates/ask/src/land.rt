@@ -33,10 +33,10 @@ fn with_sought(function: u64, compared: u64, sought: Sought) -> AskAnswer
             compared: compared,
         },
         Sought::Hit { row, number } => AskAnswer::Found {
-            row: row,
             function: function,
-            number: number as u64,
             compared: compared,
+            number: number as u64,
+            row: row,
         },
     }
 }

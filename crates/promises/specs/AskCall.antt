@@ -58,7 +58,7 @@ pub record AnswerMeans (s : List ℕ) (address pc : ℕ) (answer : AskAnswer) : 
   -- every answer at once, with its index, row and count
   pub case : (a : AskAnswer) → (answer ≡ a) ↔ AskCase s (distance address pc) a
   -- a row and 23: the function landed on covers and obeys 9 to 13
-  pub row : (row : Row) (i k compared : ℕ) → answer ≡ Found row i k compared
+  pub row : (row : Row) (i k compared : ℕ) → answer ≡ Found i compared k row
       → LandsOn s (distance address pc) i × Covers s (distance address pc) i × OwnRulesHold s i
   pub no-row : (i compared : ℕ) → answer ≡ NoRow i compared
       → LandsOn s (distance address pc) i × Covers s (distance address pc) i × OwnRulesHold s i

@@ -24,10 +24,10 @@ fn show_refused(number: u64, compared: u64) {
 fn show_asked(answer: AskAnswer) {
     match answer {
         AskAnswer::Found {
-            row,
             function,
-            number,
             compared,
+            number,
+            row,
         } => {
             show_found(row, function, number);
             show_compared(compared);

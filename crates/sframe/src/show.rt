@@ -151,10 +151,10 @@ pub fn show_answer(answer: Answer) {
 pub fn show_asked(answer: AskAnswer) {
     match answer {
         AskAnswer::Found {
-            row,
             function,
-            number,
             compared,
+            number,
+            row,
         } => {
             show_found(row, function, number);
             show_compared(compared);

@@ -21,8 +21,8 @@ use Rattle.suntimpani.proofs.Lossless.{read-row, lossless}
 
 read-asked : (answer : AskAnswer) → AskNumbered answer → readAsked (flatAsked answer) ≡ answer
 unfolding readAsked flatAsked flatRow askNumber numberOfUnanswered numberOfUnfound askIndexes askRow askCompared
-read-asked (ask.Found row function number compared) numbered =
-    ap (λ r. ask.Found r function number compared) (read-row 0 function 0 compared number row)
+read-asked (ask.Found function compared number row) numbered =
+    ap (λ r. ask.Found function compared number r) (read-row 0 function 0 compared number row)
 read-asked (ask.Unsound number) numbered =
     rw (ne-eqb number 0 λ is. omega (arith, numbered .0, is), readAsked)
     (rw (ne-eqb number 21 λ is. omega (arith, numbered .1, is))
@@ -38,7 +38,7 @@ module _ (s : List ℕ) (address pc : ℕ) where
   ask-numbered = by (askOf s address pc) (some-case s address pc)
     where
       by : (answer : AskAnswer) → AskCase s (distance address pc) answer → AskNumbered answer
-      by (ask.Found row function number compared) case = tt
+      by (ask.Found function compared number row) case = tt
       by (ask.Unsound number) (rule, is, breaks) = (omega (arith, is, number-of-rule rule), omega (arith, is, breaks .0))
       by ask.Unsorted case = tt
       by (ask.NoFunction compared) case = tt

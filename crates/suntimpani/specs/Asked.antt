@@ -20,7 +20,7 @@ flatAsked answer =
 unfoldable pub readAsked : AnswerInC → AskAnswer
 readAsked asked =
     elim (eqb (asked .number) 0) [
-      | true ↦ Found (readRow asked) (asked .function) (asked .row) (asked .compared)
+      | true ↦ Found (asked .function) (asked .compared) (asked .row) (readRow asked)
       | false ↦ elim (eqb (asked .number) 21) [
         | true ↦ NoFunction (asked .compared)
         | false ↦ elim (eqb (asked .number) 23) [

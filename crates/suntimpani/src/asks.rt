@@ -11,10 +11,10 @@ pub fn flat_asked(answer: AskAnswer) -> AnswerInC
 {
     match answer {
         AskAnswer::Found {
-            row,
             function,
-            number,
             compared,
+            number,
+            row,
         } => flat_row(0, function, 0, compared, number, row),
         AskAnswer::Unsound(number) => flat_row(number, 0, 0, 0, 0, empty_row()),
         AskAnswer::Unsorted => flat_row(45, 0, 0, 0, 0, empty_row()),

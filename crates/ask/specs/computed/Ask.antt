@@ -26,7 +26,7 @@ askAfter Sound next = next
 -- "Otherwise it answers .. 23 or the row by the usual rules on what it read"
 unfoldable pub withRow : ℕ → ℕ → Scan → AskAnswer
 withRow i compared Missed = NoRow i compared
-withRow i compared (Hit row number) = Found row i number compared
+withRow i compared (Hit row number) = Found i compared number row
 
 -- "If the function landed on covers d and breaks 9 to 13, it answers 44 with its index and the count."
 unfoldable pub checkedRow : Fault → ℕ → ℕ → Scan → AskAnswer

@@ -60,7 +60,7 @@ soughtIn area shape entry past =
 unfoldable pub withSought : ℕ → ℕ → Sought → AskAnswer
 withSought i compared Broken = Damaged i compared
 withSought i compared Missed = NoRow i compared
-withSought i compared (Hit row number) = Found row i number compared
+withSought i compared (Hit row number) = Found i compared number row
 
 -- function i, of a PC that is so far past its start
 unfoldable pub pastFunction : List ℕ → ℕ → ℕ → ℕ → AskAnswer

@@ -39,7 +39,7 @@ OutcomeNumbered (outcome.NoRow function) = Unit {0}
 
 -- "1 to 8"
 abbrev pub AskNumbered : AskAnswer → Type 0
-AskNumbered (ask.Found row function number compared) = Unit {0}
+AskNumbered (ask.Found function compared number row) = Unit {0}
 AskNumbered (ask.Unsound number) = (1 ≤ number) × (number ≤ 8)
 AskNumbered ask.Unsorted = Unit {0}
 AskNumbered (ask.NoFunction compared) = Unit {0}
