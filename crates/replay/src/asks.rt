@@ -1,13 +1,9 @@
-// The questions of a case once more, each asked as one address of a section that is not checked whole.
+// The answer to a question that was asked as one address of a section that is not checked whole.
 use crate::show::say;
 use crate::show::say_number;
 use crate::show::show_found;
-use crate::show::show_question;
 use crate::show::show_refused_at;
 use ask::answer::AskAnswer;
-use ask::land::ask;
-use numbers::field::Order;
-use numbers::field::u64_at;
 
 fn show_compared(compared: u64) {
     say(b" compared ");
@@ -21,7 +17,7 @@ fn show_refused(number: u64, compared: u64) {
     show_compared(compared);
 }
 
-fn show_asked(answer: AskAnswer) {
+pub fn show_asked(answer: AskAnswer) {
     match answer {
         AskAnswer::Found {
             function,
@@ -49,17 +45,5 @@ fn show_asked(answer: AskAnswer) {
             show_refused_at(44, function);
             show_compared(compared);
         }
-    }
-}
-
-// Answers every question on a section.
-pub fn ask_each(section: &[u8], questions: &[u8]) {
-    let mut at = 0;
-    while 16 <= questions.len() - at {
-        let address = u64_at(questions, at, Order::Little);
-        let pc = u64_at(questions, at + 8, Order::Little);
-        show_question(address, pc);
-        show_asked(ask(section, address, pc));
-        at = at + 16;
     }
 }

@@ -14,13 +14,14 @@ mod walks;
 ghost use Prim.Native.Nat.{_+_, _<_, _≤_};
 ghost use lib.ListN.{length};
 ghost use Rattle.io.specs.Counts.{Counts};
-use crate::asks::ask_each;
+use crate::asks::show_asked;
 use crate::show::say;
 use crate::show::show_answer;
 use crate::show::show_question;
 use crate::show::show_verdict;
 use crate::walks::make_walks;
 use accept::section_check::check;
+use ask::land::ask;
 use lookup::look::lookup;
 use numbers::field::Order;
 use numbers::field::u64_at;
@@ -97,29 +98,40 @@ fn show_cut() {
     say(b"the last case is cut\n");
 }
 
-// Answers every question on a section.
-fn ask(section: &[u8], questions: &[u8]) {
-    let mut at = 0;
-    while 16 <= questions.len() - at {
-        let address = u64_at(questions, at, Order::Little);
-        let pc = u64_at(questions, at + 8, Order::Little);
-        show_question(address, pc);
-        show_answer(lookup(section, address, pc));
-        at = at + 16;
-    }
-}
-
 // What is made of a case: its verdict with all answers, or its questions asked once more.
 enum Pass {
     Answers,
     Asks,
 }
 
+// One question on a section, looked up or asked.
+fn answer(pass: Pass, section: &[u8], address: u64, pc: u64) {
+    match pass {
+        Pass::Answers => {
+            show_answer(lookup(section, address, pc));
+        }
+        Pass::Asks => {
+            show_asked(ask(section, address, pc));
+        }
+    }
+}
+
+fn answer_each(pass: Pass, section: &[u8], questions: &[u8]) {
+    let mut at = 0;
+    while 16 <= questions.len() - at {
+        let address = u64_at(questions, at, Order::Little);
+        let pc = u64_at(questions, at + 8, Order::Little);
+        show_question(address, pc);
+        answer(pass, section, address, pc);
+        at = at + 16;
+    }
+}
+
 // Everything that is looked up in one section.
 fn run(head: &[u8], section: &[u8], questions: &[u8], walks: &[u8]) {
     show_name(head);
     show_verdict(check(section));
-    ask(section, questions);
+    answer_each(Pass::Answers, section, questions);
     make_walks(section, walks);
 }
 
@@ -130,7 +142,7 @@ fn run_asks(head: &[u8], section: &[u8], questions: &[u8]) {
     }
     show_name(head);
     say(b" asked\n");
-    ask_each(section, questions);
+    answer_each(Pass::Asks, section, questions);
 }
 
 fn run_pass(pass: Pass, head: &[u8], section: &[u8], questions: &[u8], walks: &[u8]) {

@@ -1,19 +1,19 @@
--- `ask` stays within the questions: a turn begins only where a whole question is left.
+-- `answer_each` stays within the questions: a turn begins only where a whole question is left.
 -- Assumes nothing.
 use borrow.Author.Needs.{needs}
 use Prim.Native.Nat.{_≤_, _-_}
 use lib.ListN.{length}
-use Rattle.replay.proofs.ask.Statement.{statement}
-use Rattle.replay.proofs.ask.Tie as tie
+use Rattle.replay.proofs.answer_each.Statement.{statement}
+use Rattle.replay.proofs.answer_each.Tie as tie
 
 abbrev Inv-loop : tie.InvT-loop
-Inv-loop section questions at₀ at = at ≤ length questions
+Inv-loop pass section questions at₀ at = at ≤ length questions
 
 abbrev μ-loop : tie.MeasureT-loop
-μ-loop section questions at₀ at = length questions - at
+μ-loop pass section questions at₀ at = length questions - at
 
-pub ask-spec : {M : Type 1} → statement M
-ask-spec =
+pub answer-each-spec : {M : Type 1} → statement M
+answer-each-spec =
     tie.close
     (tie.spec
     Inv-loop
@@ -22,7 +22,6 @@ ask-spec =
     (λ c. search needs)
     (λ c κs. search needs)
     (λ c. search needs)
-    (λ c κs. search needs)
     (λ c κs. search needs)
     (λ c κs. search needs)
     (λ c κs. search needs)
