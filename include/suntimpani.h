@@ -125,16 +125,16 @@
  *     30  the last frame's RA is 0, cleared of the mask's bits where it is signed: it is the outermost frame
  *     31  the limit is full, and the last frame's RA is not 0
  *     42  the limit is above 256
- *     43  the buffer has fewer than 3 words for each frame of the limit
+ *     43  the buffer has fewer than 3 words for each frame of the limit; limit 0 asks for 384
  *
  *
- * Example: walk from the registers of a crash, at most 64 frames, and print what was found.
+ * Example: walk from the registers of a crash, under the usual limit, and print what was found.
  *
- *     uint64_t words[3 * 64];
+ *     uint64_t words[3 * SUNTIMPANI_USUAL_LIMIT];
  *     suntimpani_process process = { section_address, stack_address, 0 };
  *     suntimpani_registers crash = { pc, sp, fp, 0, 1 };
- *     suntimpani_traced traced =
- *         suntimpani_trace(section, length, stack, stack_length, process, crash, 64, words, 3 * 64);
+ *     suntimpani_traced traced = suntimpani_trace(section, length, stack, stack_length, process, crash,
+ *                                                 SUNTIMPANI_USUAL_LIMIT, words, 3 * SUNTIMPANI_USUAL_LIMIT);
  *     for (uint64_t frame = 0; frame < traced.frames; frame++) {
  *         printf("CFA %" PRIx64 ", returns to %" PRIx64 "\n", words[3 * frame], words[3 * frame + 1]);
  *     }
@@ -147,7 +147,11 @@
 #include <stdint.h>
 
 /* The version of this header and of the archive beside it. */
-#define SUNTIMPANI_VERSION "0.4.1"
+#define SUNTIMPANI_VERSION "0.5.0"
+
+/* How many frames a trace may have whose limit is 0. Who passes this name in place of 0, and has the size of the buffer
+ * from it, lends enough whatever 0 means in the archive. */
+#define SUNTIMPANI_USUAL_LIMIT 128
 
 #ifdef __cplusplus
 extern "C" {
@@ -308,9 +312,10 @@ suntimpani_answer suntimpani_ask(const uint8_t *section, size_t length, uint64_t
 suntimpani_step suntimpani_caller(const uint8_t *section, size_t length, const uint8_t *stack, size_t stack_length,
                                   suntimpani_process process, suntimpani_registers registers);
 
-/* The whole trace from the registers of the crash, whatever their `first`. Limit 0 means 64; otherwise it is 1 to 256.
+/* The whole trace from the registers of the crash, whatever their `first`. Limit 0 means 128 (before version 0.5.0 it
+ * was 64); otherwise it is 1 to 256.
  *
- * The buffer has at least 3 words of 64 bits for each frame of the limit: 192 for limit 0, 768 for 256. `words` is how
+ * The buffer has at least 3 words of 64 bits for each frame of the limit: 384 for limit 0, 768 for 256. `words` is how
  * many it has. Frame i is words 3i, 3i + 1 and 3i + 2: CFA, RA and the caller's FP. RA is as it was read, or on a
  * signed row with the mask's bits cleared. It may be the first byte behind the function that called, so that the next
  * frame is found at RA - 1. Every word behind the frames that the answer counts keeps what it held; after 1 to 15 and

@@ -75,7 +75,7 @@ static int place(uint64_t index) {
 
 /* Who called whom? The crash was in function 1, at 0x401044. */
 static int walk(void) {
-    enum { LIMIT = 64 };
+    enum { LIMIT = SUNTIMPANI_USUAL_LIMIT };
     uint64_t words[3 * LIMIT], frame;
     /* The mask is for signed return addresses, which there are on AArch64 alone. */
     suntimpani_process process = {SECTION_ADDRESS, STACK_ADDRESS, 0};

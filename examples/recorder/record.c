@@ -45,42 +45,42 @@ static void say_named(int file, const char *name, uint64_t word) {
     say(file, "\n");
 }
 
-static int write_run(const crash *seen) {
+static int write_run(const crash *recorded) {
     int file = open_new(RUN_FILE);
     if (file < 0) {
         return 0;
     }
-    say_named(file, "section_address", seen->process.section_address);
-    say_named(file, "stack_address", seen->process.stack_address);
-    say_named(file, "mask", seen->process.mask);
-    say_named(file, "pc", seen->registers.pc);
-    say_named(file, "sp", seen->registers.sp);
-    say_named(file, "fp", seen->registers.fp);
-    say_named(file, "lr", seen->registers.lr);
-    say_named(file, "limit", LIMIT);
+    say_named(file, "section_address", recorded->process.section_address);
+    say_named(file, "stack_address", recorded->process.stack_address);
+    say_named(file, "mask", recorded->process.mask);
+    say_named(file, "pc", recorded->registers.pc);
+    say_named(file, "sp", recorded->registers.sp);
+    say_named(file, "fp", recorded->registers.fp);
+    say_named(file, "lr", recorded->registers.lr);
+    say_named(file, "limit", SUNTIMPANI_USUAL_LIMIT);
     say_named(file, "frames", FRAMES);
     say_named(file, "ending", OUTSIDE);
     return close(file) == 0;
 }
 
-static int write_frames(const crash *seen) {
+static int write_frames(const crash *recorded) {
     int number, file = open_new(FRAMES_FILE);
     if (file < 0) {
         return 0;
     }
     for (number = 0; number < FRAMES; number++) {
-        say_word(file, seen->expected[number].cfa);
+        say_word(file, recorded->expected[number].cfa);
         say(file, " ");
-        say_word(file, seen->expected[number].ra);
+        say_word(file, recorded->expected[number].ra);
         say(file, " ");
-        say_word(file, seen->expected[number].fp);
+        say_word(file, recorded->expected[number].fp);
         say(file, "\n");
     }
     return close(file) == 0;
 }
 
 /* 0 where a file cannot be written. */
-int write_record(const crash *seen) {
-    return write_bytes(SECTION_FILE, seen->section) && write_bytes(STACK_FILE, seen->stack) && write_run(seen) &&
-           write_frames(seen);
+int write_record(const crash *recorded) {
+    return write_bytes(SECTION_FILE, recorded->section) && write_bytes(STACK_FILE, recorded->stack) && write_run(recorded) &&
+           write_frames(recorded);
 }

@@ -1,12 +1,12 @@
-/* A crash recorder: a program that faults four calls deep and, in the handler of the signal, walks its own stack with
- * Suntimpani and holds every frame against what it noted on the way down. x86-64 and AArch64 Linux.
+/* A crash recorder: a program that faults and, in the handler of the signal, walks its own stack with Suntimpani and
+ * holds every frame against what it noted on the way down. x86-64 and AArch64 Linux.
  *
- *     recorder                 prints the trace and says whether each frame is as expected
+ *     recorder                 faults four calls deep, prints the trace and says whether each frame is as expected
  *     recorder --record DIR    does the same and writes the crash to files of that folder, which must exist
+ *     recorder --deep          faults 150 calls deep, and walks that under limit 0 and under 256
  *
  * The status is 0 only where every frame and the ending are as expected. */
 #define _GNU_SOURCE
-#include <alloca.h>
 #include <signal.h>
 #include <stdio.h>
 #include <stdlib.h>
@@ -16,79 +16,10 @@
 
 #include "recorder.h"
 
-/* What the handler needs, found before the crash. */
-static crash seen;
-static int recording;
+crash seen;
 
-/* Noted right before a call: SP is then the CFA of the function that is called, and FP its caller's. The argument goes
- * through it, into the register where the call takes it, so that the compiler has nothing to compute in between, for
- * which it might use FP. On AArch64 any register will do: a function that calls has FP for nothing else there. */
-#if defined(__aarch64__)
-#define NOTE_CALL(called, argument)                                                                                    \
-    __asm__ volatile("mov x16, sp\n\tstr x16, %0\n\tstr x29, %1"                                                       \
-                     : "=m"(seen.expected[called].cfa), "=m"(seen.expected[called].fp), "+r"(argument)                 \
-                     :                                                                                                 \
-                     : "x16")
-#else
-#define NOTE_CALL(called, argument)                                                                                    \
-    __asm__ volatile("movq %%rsp, %0\n\tmovq %%rbp, %1"                                                                \
-                     : "=m"(seen.expected[called].cfa), "=m"(seen.expected[called].fp), "+D"(argument))
-#endif
-
-/* Noted by a function that was called. */
-#define NOTE_RETURN(self) (seen.expected[self].ra = (uint64_t)(uintptr_t)__builtin_return_address(0))
-
-#define APART __attribute__((noinline))
-#define NEVER_RETURNS __attribute__((noreturn))
-
-static volatile int *volatile nowhere;
-static volatile int depth;
-
-/* The fault: in the body of a function that keeps no frame pointer. */
-static APART NEVER_RETURNS void third(int value) {
-    volatile int kept[40];
-    NOTE_RETURN(IN_THIRD);
-    kept[value] = value;
-    *nowhere = kept[value];
-    __builtin_trap();
-}
-
-/* Its last instruction is the call, since nothing comes back from it: the return address is the first byte behind this
- * function. As GCC lays it out here, another one begins there; clang fills up to the next multiple of 16. */
-static APART NEVER_RETURNS void last(int value) {
-    volatile int kept[20];
-    NOTE_RETURN(IN_LAST);
-    kept[value] = value + 1;
-    value = kept[value];
-    NOTE_CALL(IN_THIRD, value);
-    third(value);
-}
-
-/* Read when it is called, so that the compiler does not know that nothing comes back from here either. */
-static void (*volatile called_last)(int) = last;
-
-/* The room by alloca makes the compiler count from a frame pointer. */
-static APART int second(int value) {
-    void (*called)(int) = called_last;
-    volatile char *room = (volatile char *)alloca((size_t)value + 100);
-    NOTE_RETURN(IN_SECOND);
-    room[value] = (char)value;
-    value++;
-    NOTE_CALL(IN_LAST, value);
-    called(value);
-    return room[depth];
-}
-
-/* Room of a fixed size, counted from SP. */
-static APART int first(int value) {
-    volatile int kept[40];
-    NOTE_RETURN(IN_FIRST);
-    kept[value] = value;
-    value++;
-    NOTE_CALL(IN_SECOND, value);
-    value = second(value);
-    return value + kept[depth];
-}
+/* What is asked for, and the number of main's own frame. */
+static int recording, deeper, in_main;
 
 static void say_frame(uint64_t number, const uint64_t *words) {
     say_count(1, number, 5);
@@ -129,10 +60,10 @@ static int differs(uint64_t number, const char *name, uint64_t got, uint64_t not
     return 1;
 }
 
-static int differences(suntimpani_traced traced, const uint64_t *words) {
+static int differences(uint64_t frames, const uint64_t *words) {
     uint64_t number;
     int count = 0;
-    for (number = 0; number < traced.frames && number < FRAMES; number++) {
+    for (number = 0; number < frames; number++) {
         const frame *noted = &seen.expected[number];
         count += differs(number, ": CFA is ", words[3 * number], noted->cfa);
         count += differs(number, ": RA is ", words[3 * number + 1], noted->ra);
@@ -142,15 +73,16 @@ static int differences(suntimpani_traced traced, const uint64_t *words) {
 }
 
 /* The words that both have are compared even where the number of frames is another. */
-static int is_as_expected(suntimpani_traced traced, const uint64_t *words) {
-    int same = traced.frames == FRAMES && traced.ending == OUTSIDE;
-    if (differences(traced, words) > 0) {
+static int is_as_expected(suntimpani_traced traced, const uint64_t *words, uint64_t frames, uint64_t ending) {
+    int same = traced.frames == frames && traced.ending == ending;
+    if (differences(traced.frames < frames ? traced.frames : frames, words) > 0) {
         return 0;
     }
     say(1, "recorder: ");
-    say_count(1, FRAMES, 1);
-    say(1, same ? " frames as expected" : " frames were expected");
-    say(1, ", and the ending 21: this program's section does not cover the C library\n");
+    say_count(1, frames, 1);
+    say(1, same ? " frames as expected, and the ending " : " frames were expected, and the ending ");
+    say_count(1, ending, 1);
+    say(1, ending == FULL ? ": the limit is full\n" : ": this program's section does not cover the C library\n");
     return same;
 }
 
@@ -177,24 +109,41 @@ static void take_registers(const mcontext_t *at_fault) {
 }
 #endif
 
-static void on_fault(int signal_number, siginfo_t *info, void *context) {
-    static uint64_t words[3 * LIMIT];
-    suntimpani_traced traced;
+static suntimpani_traced walk(uint64_t limit, uint64_t *words, size_t lent) {
+    return suntimpani_trace(seen.section.bytes, seen.section.length, seen.stack.bytes, seen.stack.length, seen.process,
+                            seen.registers, limit, words, lent);
+}
+
+/* The usual crash, under the usual limit: the buffer has its size from the same name, so that they fit each other. */
+static int walk_usual(void) {
+    static uint64_t words[3 * SUNTIMPANI_USUAL_LIMIT];
+    suntimpani_traced traced = walk(SUNTIMPANI_USUAL_LIMIT, words, 3 * SUNTIMPANI_USUAL_LIMIT);
     int recorded;
+    say_trace(traced, words);
+    recorded = record();
+    return is_as_expected(traced, words, FRAMES, OUTSIDE) && recorded;
+}
+
+/* The deep crash has more frames than limit 0 allows, and fewer than the highest limit. */
+static int walk_deep(void) {
+    static uint64_t words[3 * HIGHEST];
+    suntimpani_traced cut = walk(0, words, 3 * SUNTIMPANI_USUAL_LIMIT), whole;
+    int expected = is_as_expected(cut, words, SUNTIMPANI_USUAL_LIMIT, FULL);
+    whole = walk(HIGHEST, words, 3 * HIGHEST);
+    return is_as_expected(whole, words, DEEP_FRAMES, OUTSIDE) && expected;
+}
+
+static void on_fault(int signal_number, siginfo_t *info, void *context) {
     (void)signal_number;
     (void)info;
     take_registers(&((const ucontext_t *)context)->uc_mcontext);
     seen.registers.first = 1;
     /* The stack window ends where main's caller begins: nothing above belongs to a frame of this program. */
     seen.stack.bytes = (const uint8_t *)seen.registers.sp;
-    seen.stack.length = seen.expected[IN_MAIN].cfa - seen.registers.sp;
+    seen.stack.length = seen.expected[in_main].cfa - seen.registers.sp;
     seen.process.section_address = (uint64_t)(uintptr_t)seen.section.bytes;
     seen.process.stack_address = seen.registers.sp;
-    traced = suntimpani_trace(seen.section.bytes, seen.section.length, seen.stack.bytes, seen.stack.length,
-                              seen.process, seen.registers, LIMIT, words, 3 * LIMIT);
-    say_trace(traced, words);
-    recorded = record();
-    _exit(is_as_expected(traced, words) && recorded ? 0 : 1);
+    _exit((deeper ? walk_deep() : walk_usual()) ? 0 : 1);
 }
 
 /* The bits that may hold the signature of a return address: all above those of a user's address, which are 0 in it. A
@@ -233,9 +182,8 @@ enum { FRAME_KNOWN = 1 };
 #endif
 
 static const char *why_not_ready(int count, char **words) {
-    recording = count == 3 && strcmp(words[1], "--record") == 0;
-    if (count != 1 && !recording) {
-        return "usage: recorder [--record DIR]";
+    if (count != 1 && !recording && !deeper) {
+        return "usage: recorder [--record DIR | --deep]";
     }
     if (recording && !prepare_record(words[2])) {
         return "the folder's name is too long";
@@ -254,17 +202,26 @@ int main(int count, char **words) {
     /* main counts from a frame pointer too, since it asks for it: its caller's FP is the word there. */
     const uint64_t *pointed = (const uint64_t *)__builtin_frame_address(0);
     const char *why_not;
-    seen.expected[IN_MAIN].cfa = (uint64_t)(uintptr_t)__builtin_dwarf_cfa();
-    seen.expected[IN_MAIN].fp = *pointed;
-    NOTE_RETURN(IN_MAIN);
+    recording = count == 3 && strcmp(words[1], "--record") == 0;
+    deeper = count == 2 && strcmp(words[1], "--deep") == 0;
+    in_main = deeper ? DEEP : IN_MAIN;
+    seen.expected[in_main].cfa = (uint64_t)(uintptr_t)__builtin_dwarf_cfa();
+    seen.expected[in_main].fp = *pointed;
+    NOTE_RETURN(in_main);
     seen.process.mask = signature_bits(pointed);
     why_not = why_not_ready(count, words);
     if (why_not != NULL) {
         fprintf(stderr, "recorder: %s\n", why_not);
         return 1;
     }
-    NOTE_CALL(IN_FIRST, count);
-    depth = first(count);
+    if (deeper) {
+        count = DEEP - 1;
+        NOTE_CALL(DEEP - 1, count);
+        deep(count);
+    } else {
+        NOTE_CALL(IN_FIRST, count);
+        first(count);
+    }
     fprintf(stderr, "recorder: there was no fault\n");
     return 1;
 }

@@ -361,6 +361,46 @@ static void k10_to_k12(void) {
     compare_trace("K10 with limit 0 and 8 words", S, 64, 0, 8, room, none);
 }
 
+/* The second function of S has called itself so often, and a trace of that with a limit over so many words: how many
+ * frames there are and how it ends, each of their words, and every word behind them as it was. */
+static void compare_deep(const char *what, size_t calls, uint64_t limit, size_t lent, suntimpani_traced wanted) {
+    static uint8_t stack[8 * 200];
+    static uint64_t buffer[3 * 256];
+    size_t place;
+    suntimpani_traced got;
+    for (place = 0; place < 8 * calls; place++) {
+        stack[place] = (uint8_t)(UINT64_C(0x401044) >> 8 * (place % 8));
+    }
+    for (place = 0; place < 3 * 256; place++) {
+        buffer[place] = HELD;
+    }
+    got = suntimpani_trace(S, 78, stack, 8 * calls, PROCESS, START, limit, buffer, lent);
+    compare_traced(what, got, wanted);
+    for (place = 0; place < 3 * 256; place++) {
+        const uint64_t frame[3] = {0x7008 + 8 * (place / 3), 0x401044, 0x7030};
+        compare(what, "a word of the buffer", buffer[place], place < 3 * wanted.frames ? frame[place % 3] : HELD);
+    }
+}
+
+/* Limit 0 is the usual limit: 128 frames, 384 words. Who relied on 64 passes 64. */
+static void limits(void) {
+    const suntimpani_traced cut = {127, 28, 0}, last = {128, 28, 0}, full = {128, 31, 0}, room = {0, 43, 0};
+    const suntimpani_traced older = {64, 31, 0}, whole = {200, 28, 0};
+    compare("the usual limit", "frames", SUNTIMPANI_USUAL_LIMIT, 128);
+    compare_deep("limit 0, 127 calls", 127, 0, 384, cut);
+    compare_deep("limit 0, 128 calls", 128, 0, 384, full);
+    compare_deep("limit 0, 129 calls", 129, 0, 384, full);
+    compare_deep("limit 0, a word more", 129, 0, 385, full);
+    compare_deep("limit 0, a word fewer", 129, 0, 383, room);
+    compare_deep("limit 128", 129, 128, 384, full);
+    compare_deep("limit 128, a word fewer", 129, 128, 383, room);
+    compare_deep("limit 129", 128, 129, 387, last);
+    compare_deep("limit 0 and 192 words", 129, 0, 192, room);
+    compare_deep("limit 64 and 192 words", 129, 64, 192, older);
+    compare_deep("limit 256", 200, 256, 768, whole);
+    compare_deep("limit 0 and 768 words", 200, 0, 768, full);
+}
+
 static void steps(void) {
     const suntimpani_registers marked = {0x401044, 0x7000, 0x7030, 0x5555, 7};
     const suntimpani_process high = {ADDRESS, UINT64_MAX, 0};
@@ -815,6 +855,7 @@ int main(void) {
     rows_of_any_numbers();
     rows_of_refused_sections();
     k10_to_k12();
+    limits();
     steps();
     last_calls();
     examples_on_aarch64();

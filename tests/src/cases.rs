@@ -147,6 +147,7 @@ pub fn all() -> Vec<Case> {
     walk_in_refused(&mut cases);
     // Of these everything is stated.
     cases.extend(asked::all());
+    cases.extend(limits::usual());
     cases
 }
 

@@ -22,7 +22,15 @@ pub fn through(section: &[u8], frames: usize, seed: u64) -> Walk {
 /// # Panics
 /// Where the other does.
 pub fn through_signed(section: &[u8], frames: usize, seed: u64, mask: u64) -> Walk {
+    if_usable(section, frames, seed, mask).expect("a row that can be laid out")
+}
+
+/// The same, or none where no row of the section can be laid out.
+pub fn if_usable(section: &[u8], frames: usize, seed: u64, mask: u64) -> Option<Walk> {
     let places = usable(section, mask != 0);
+    if places.is_empty() {
+        return None;
+    }
     let mut random = Random::new(seed);
     let chain = Vec::from_iter((0..frames).map(|_| places[random.below(places.len() as u64) as usize]));
     // A return address is one behind the PC that is looked up for it; behind the last frame's function there is none.
@@ -36,7 +44,7 @@ pub fn through_signed(section: &[u8], frames: usize, seed: u64, mask: u64) -> Wa
     let stack = words.iter().flat_map(|word: &u64| if big { word.to_be_bytes() } else { word.to_le_bytes() }).collect();
     let registers = Registers { pc: chain[0].0, sp: BEGIN, fp: BEGIN, lr: 0, first: 1 };
     let process = Process { section: ADDRESS, stack: BEGIN, mask };
-    Walk { process, registers, stack, limit: frames as u64, words: 3 * frames }
+    Some(Walk { process, registers, stack, limit: frames as u64, words: 3 * frames })
 }
 
 // The PCs at which rows begin that can be laid out, with the row of each.

@@ -55,7 +55,7 @@ fn walk(verdict: Verdict) -> (Walk, Walked) {
     let ra = pc_of(0) + 1;
     let stack = [ra, 0].map(u64::to_le_bytes).concat();
     let walk =
-        Walk { process: Process { section: ADDRESS, stack: 0x7000, mask: 0 }, registers, stack, limit: 0, words: 192 };
+        Walk { process: Process { section: ADDRESS, stack: 0x7000, mask: 0 }, registers, stack, limit: 64, words: 192 };
     let walked = match verdict {
         Verdict::Refused { number, index } => {
             let step = Step::Unsound { old: registers, number, index };

@@ -22,7 +22,7 @@ pub use lookup::{lookup, Answer, Checked, Outcome};
 pub use named::named_bytes;
 pub use rows::{next_row, rows_of, NextRow, RowsAt};
 use std::fmt;
-pub use trace::{trace, Ending, Traced};
+pub use trace::{trace, Ending, Traced, USUAL_FRAMES};
 
 const HEADER_BYTES: usize = 28;
 const ENTRY_BYTES: usize = 20;

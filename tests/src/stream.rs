@@ -403,6 +403,23 @@ mod tests {
         }
     }
 
+    // Some of the traces with limit 0 end in the last frame that it allows, by 30 and by 31, and some would go on.
+    #[test]
+    fn the_usual_limit_is_filled() {
+        let (mut random, mut counts) = (Random::new(8), BTreeMap::<(u64, u64), u32>::new());
+        for _ in 0..4_000 {
+            let section = walkable(&mut random);
+            for walk in walks(&mut random, &section).into_iter().filter(|walk| walk.limit == 0) {
+                let traced = walk.by_reader(&section).traced;
+                *counts.entry((traced.frames, traced.ending.number())).or_default() += 1;
+            }
+        }
+        println!("how often limit 0 comes to so many frames and this ending: {counts:?}");
+        let at_least = |frames, ending, count| counts.get(&(frames, ending)).is_some_and(|&times| times >= count);
+        assert!(at_least(127, 30, 5) && at_least(128, 30, 5) && at_least(128, 31, 25), "{counts:?}");
+        assert!(counts.keys().all(|&(frames, _)| frames <= 128), "{counts:?}");
+    }
+
     // By how many frames a trace goes farther than it would with mask 0, which ends it at the first signed row.
     #[test]
     fn masks_lead_through_signed_rows() {

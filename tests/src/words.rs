@@ -5,6 +5,7 @@ mod listing;
 
 pub use listing::{listing, listing_of};
 
+use crate::reader::USUAL_FRAMES;
 use crate::reader::{Answer, Asked, AskedOutcome, Base, Ending, Header, Outcome, Place, Registers, Row, Step, Verdict};
 use crate::walk::Walked;
 
@@ -183,8 +184,13 @@ fn looked_up(number: u64, pc: u64, marked: bool) -> String {
     }
 }
 
-/// What `trace` prints that began at this PC.
-pub fn trace(pc: u64, walked: &Walked) -> String {
+/// What `trace` prints that began at this PC with this limit; the one in force is told where 0 was given for it.
+pub fn trace(pc: u64, limit: u64, walked: &Walked) -> String {
+    let in_force = if limit == 0 { format!("limit in force: {USUAL_FRAMES}\n") } else { String::new() };
+    traced(pc, walked) + &in_force
+}
+
+fn traced(pc: u64, walked: &Walked) -> String {
     match walked.traced.ending {
         Ending::Unsound { number, index } => section_refused(number, index),
         Ending::Refused(number @ 41..=43) => format!("{}\n", refused(number)),
@@ -336,9 +342,10 @@ mod tests {
         let second = "    1  0000000000007040  0000000000000000  0000000000000000\n";
         let head = "frame  CFA               RA                FP\n";
         let ended = "frames: 2\nended: 30, RA is 0: the outermost frame\n";
-        assert_eq!(trace(0x40_1044, k10), format!("{head}{first}{second}{ended}"));
+        assert_eq!(trace(0x40_1044, 2, k10), format!("{head}{first}{second}{ended}"));
+        assert_eq!(trace(0x40_1044, 0, k10), format!("{head}{first}{second}{ended}limit in force: 128\n"));
         let ended = "frames: 1\nended: 28, a needed word is not wholly inside the stack window\n";
-        assert_eq!(trace(0x40_1044, k12), format!("{head}{first}{ended}"));
+        assert_eq!(trace(0x40_1044, 2, k12), format!("{head}{first}{ended}"));
     }
 
     #[test]
@@ -364,7 +371,7 @@ mod tests {
     fn a_trace_without_frames_has_no_head() {
         let walk = &all()[0].walks[0].0;
         let old = walk.registers;
-        let told = |ending| trace(old.pc, &walk.stated(Step::Refused { old, number: 21 }, &[], ending));
+        let told = |ending| trace(old.pc, 2, &walk.stated(Step::Refused { old, number: 21 }, &[], ending));
         let none = "frames: 0\nended: 21, no function covers the PC\nlooked up: 0000000000401044\n";
         assert_eq!(told(Ending::Refused(21)), none);
         assert_eq!(told(Ending::Refused(42)), "refused: 42, the limit is above 256\n");
@@ -387,7 +394,7 @@ mod tests {
         assert_eq!(refused(21, 0, 1), format!("{none}0000000000000000\n"));
         assert_eq!(refused(21, 0, 0), format!("{none}nothing, since PC is 0 without the first-frame mark\n"));
         let frames = [[0x7008, 0x40_1008, 0x7030]];
-        let told = trace(old.pc, &walk.stated(walked.step, &frames, Ending::Refused(23)));
+        let told = trace(old.pc, 1, &walk.stated(walked.step, &frames, Ending::Refused(23)));
         let ended = "ended: 23, no row of the function starts at or below the PC\nlooked up: 0000000000401007\n";
         assert!(told.ends_with(ended), "{told}");
     }

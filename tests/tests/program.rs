@@ -7,7 +7,7 @@ use std::process::Command;
 use suntimpani_tests::cases::{self, corpus_section, Case, CORPUS_VERDICTS, S};
 use suntimpani_tests::maker::{Function, Machine, Row, Section};
 use suntimpani_tests::program::{counted, text, Folder};
-use suntimpani_tests::reader::{self, Base, Outcome, Place, Verdict};
+use suntimpani_tests::reader::{self, Base, Outcome, Place, Verdict, USUAL_FRAMES};
 use suntimpani_tests::walk::Walk;
 use suntimpani_tests::words::{self, wrong, COMMANDS, DECIMAL, MOST_SECTION_BYTES, MOST_STACK_BYTES};
 use suntimpani_tests::{in_repository, ADDRESS};
@@ -58,7 +58,7 @@ fn walk(folder: &Folder, section: &[u8], walk: &Walk) {
         [&[command, "section", &address, "stack", &stack_address, pc, sp, fp, lr, last][..], masks].concat()
     };
     folder.answers(&arguments("caller", &first), &words::step(&walked.step));
-    folder.answers(&arguments("trace", &limit), &words::trace(walk.registers.pc, &walked));
+    folder.answers(&arguments("trace", &limit), &words::trace(walk.registers.pc, walk.limit, &walked));
 }
 
 #[test]
@@ -168,8 +168,11 @@ fn the_walks_of_document_01_are_answered() {
     let second = format!("{first}    1  0000000000007040  0000000000000000  0000000000000000\n");
     let whole = format!("{second}frames: 2\nended: 30, RA is 0: the outermost frame\n");
     // A limit is decimal: 0x256 would be too high.
-    for limit in ["2", "0", "256", "0000000000000000002"] {
+    for limit in ["2", "256", "0000000000000000002"] {
         folder.answers(&from("trace", "stack", limit), &whole);
+    }
+    for limit in ["0", "0000000000000000000"] {
+        folder.answers(&from("trace", "stack", limit), &format!("{whole}limit in force: 128\n"));
     }
     folder.answers(&from("trace", "stack", "1"), &format!("{first}frames: 1\nended: 31, the limit is full\n"));
     let ended = "frames: 1\nended: 28, a needed word is not wholly inside the stack window\n";
@@ -491,6 +494,7 @@ fn help_lists_every_command() {
     assert_eq!(said.nth(1), Some(OF_THE_MASK), "{out}");
     let lines: Vec<&str> = out.lines().skip_while(|line| !line.starts_with("sframe lookup ")).collect();
     assert_eq!(lines[2..4], ["sframe ask FILE ADDRESS PC", OF_ASKING], "{out}");
+    assert!(out.lines().any(|line| line.contains(&format!("up to 256, and 0 stands for {USUAL_FRAMES}."))), "{out}");
 }
 
 const OF_ASKING: &str = "    the same without a check of the whole section: only what the answer needs is read";

@@ -171,6 +171,8 @@ impl Proofs {
             rest = rest[start..].find("-}").map_or("", |end| &rest[start + end + 2..]);
         }
         code.push_str(rest);
+        // A name stands between these where a part of it is a word of the language.
+        let code = code.replace(['«', '»'], "");
         let lines = code.lines().map(|line| line.split("--").next().unwrap_or("").trim_end().to_string());
         let lines: Vec<String> = lines.collect();
         let squeezed = lines.join(" ").split_whitespace().collect::<Vec<_>>().join(" ");
@@ -524,6 +526,7 @@ const UNMET: &str = "get: nothing states that its `requires` can be met";
 #[test]
 fn what_is_said_in_full_has_no_fault() {
     assert_eq!(faults_after("a small number", "a number below 8"), [""; 0]);
+    assert_eq!(faults_after("get-determined", "«get-determined»"), [""; 0]);
 }
 
 #[test]

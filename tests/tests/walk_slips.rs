@@ -164,8 +164,8 @@ const RIGHT: Ways = Ways {
     handed_back: |_, caller| caller,
     old: |old, _| old,
     too_high: |limit| limit > 256,
-    in_force: |limit| if limit == 0 { 64 } else { limit },
-    words_asked: |limit| 3 * if limit == 0 { 64 } else { limit.min(256) },
+    in_force: |limit| if limit == 0 { 128 } else { limit },
+    words_asked: |limit| 3 * if limit == 0 { 128 } else { limit.min(256) },
     first_mark: |_| 1,
     starts_at: |_, last| last,
     frame: |caller| vec![caller.sp, caller.pc, caller.fp],
@@ -181,7 +181,7 @@ fn wholly_inside(place: i128, length: usize) -> Option<i128> {
     (0 <= place && place + 8 <= length as i128).then_some(place)
 }
 
-static SLIPS: [(&str, Ways); 128] = [
+static SLIPS: [(&str, Ways); 138] = [
     // RA.
     ("LR is trusted in later frames", Ways { trusts_lr: |_| true, ..RIGHT }),
     ("LR is not trusted in the first frame", Ways { trusts_lr: |_| false, ..RIGHT }),
@@ -374,6 +374,15 @@ static SLIPS: [(&str, Ways); 128] = [
     ("a refused section's index is not told", Ways { index: |_| 0, ..RIGHT }),
     // Before a trace.
     ("43 counts the limit as given", Ways { words_asked: |limit| limit.wrapping_mul(3), ..RIGHT }),
+    (
+        "43 asks 192 words of limit 0",
+        Ways { words_asked: |limit| if limit == 0 { 192 } else { (RIGHT.words_asked)(limit) }, ..RIGHT },
+    ),
+    (
+        "43 asks 768 words of limit 0",
+        Ways { words_asked: |limit| if limit == 0 { 768 } else { (RIGHT.words_asked)(limit) }, ..RIGHT },
+    ),
+    ("43 asks 384 words of every limit", Ways { words_asked: |_| 384, ..RIGHT }),
     ("43 asks a word a frame", Ways { words_asked: |limit| (RIGHT.words_asked)(limit) / 3, ..RIGHT }),
     ("43 asks a word fewer", Ways { words_asked: |limit| (RIGHT.words_asked)(limit) - 1, ..RIGHT }),
     ("limit 256 is refused", Ways { too_high: |limit| limit > 255, ..RIGHT }),
@@ -385,6 +394,27 @@ static SLIPS: [(&str, Ways); 128] = [
     ("the section comes before 41, 42 and 43", Ways { before_trace: &[1, 41, 42, 43], ..RIGHT }),
     // A trace.
     ("limit 0 means 256", Ways { in_force: |limit| if limit == 0 { 256 } else { limit }, ..RIGHT }),
+    (
+        "limit 0 means 256, for 43 too",
+        Ways {
+            in_force: |limit| if limit == 0 { 256 } else { limit },
+            words_asked: |limit| if limit == 0 { 768 } else { (RIGHT.words_asked)(limit) },
+            ..RIGHT
+        },
+    ),
+    ("limit 0 means 64 still", Ways { in_force: |limit| if limit == 0 { 64 } else { limit }, ..RIGHT }),
+    (
+        "limit 0 means 64 still, for 43 too",
+        Ways {
+            in_force: |limit| if limit == 0 { 64 } else { limit },
+            words_asked: |limit| if limit == 0 { 192 } else { (RIGHT.words_asked)(limit) },
+            ..RIGHT
+        },
+    ),
+    ("limit 0 means 127", Ways { in_force: |limit| if limit == 0 { 127 } else { limit }, ..RIGHT }),
+    ("128 is in force for every limit", Ways { in_force: |_| 128, ..RIGHT }),
+    ("128 is the highest limit in force", Ways { in_force: |limit| (RIGHT.in_force)(limit).min(128), ..RIGHT }),
+    ("limit 64 means 128", Ways { in_force: |limit| (RIGHT.in_force)(if limit == 64 { 0 } else { limit }), ..RIGHT }),
     ("a trace starts with the mark handed in", Ways { first_mark: |first| first, ..RIGHT }),
     ("a trace starts without the mark", Ways { first_mark: |_| 0, ..RIGHT }),
     ("the first frame is repeated", Ways { starts_at: |first, _| first, ..RIGHT }),

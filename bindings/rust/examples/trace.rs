@@ -9,7 +9,7 @@
 use std::process::ExitCode;
 use std::{env, fs};
 use suntimpani::example::SECTION_S;
-use suntimpani::{frames, trace, Process, Registers};
+use suntimpani::{frames, trace, Process, Registers, USUAL_LIMIT, USUAL_WORDS};
 
 /// All that is lent for a trace.
 struct Crash {
@@ -38,9 +38,8 @@ fn main() -> ExitCode {
 }
 
 fn print(crash: &Crash) {
-    const LIMIT: usize = 64;
-    let mut words = [0; 3 * LIMIT];
-    let traced = trace(&crash.section, &crash.stack, crash.process, crash.registers, LIMIT as u64, &mut words);
+    let mut words = [0; USUAL_WORDS];
+    let traced = trace(&crash.section, &crash.stack, crash.process, crash.registers, USUAL_LIMIT, &mut words);
     println!("frame  CFA               RA                FP");
     for (number, frame) in frames(&words, traced.frames).enumerate() {
         println!("{number:>5}  {:016x}  {:016x}  {:016x}", frame.cfa, frame.ra, frame.fp);

@@ -12,14 +12,14 @@
 //!
 //! ```
 //! use suntimpani::example::SECTION_S;
-//! use suntimpani::{frames, trace, Ending, Process, Registers};
+//! use suntimpani::{frames, trace, Ending, Process, Registers, USUAL_LIMIT, USUAL_WORDS};
 //!
 //! let mut stack = [0; 64];
 //! stack[..3].copy_from_slice(&[0x08, 0x10, 0x40]);
 //! let process = Process { section_address: 0x40_0000, stack_address: 0x7000, mask: 0 };
 //! let crash = Registers { pc: 0x40_1044, sp: 0x7000, fp: 0x7030, lr: 0, first: true };
-//! let mut words = [0; 3 * 64];
-//! let traced = trace(&SECTION_S, &stack, process, crash, 64, &mut words);
+//! let mut words = [0; USUAL_WORDS];
+//! let traced = trace(&SECTION_S, &stack, process, crash, USUAL_LIMIT, &mut words);
 //! assert_eq!(traced.ending, Ending::Outermost);
 //! let returns: Vec<u64> = frames(&words, traced.frames).map(|frame| frame.ra).collect();
 //! assert_eq!(returns, [0x40_1008, 0]);
@@ -43,7 +43,7 @@ pub use functions::{function_at, functions, Block, Function, Functions};
 pub use look::{lookup, Answer, Base, Outcome, Place, Row};
 pub use refusal::{Refusal, Rule, Unsound};
 pub use rows::{rows, Rows};
-pub use walk::{frames, trace, Ending, Frame, Process, Registers, Step, Traced};
+pub use walk::{frames, trace, Ending, Frame, Process, Registers, Step, Traced, USUAL_LIMIT, USUAL_WORDS};
 
 /// The version of the library: the header for C has the same as `SUNTIMPANI_VERSION`.
 pub const VERSION: &str = env!("CARGO_PKG_VERSION");

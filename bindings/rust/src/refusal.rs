@@ -61,7 +61,8 @@ pub enum Refusal {
     Window = 41,
     /// The limit is above 256.
     LimitAbove = 42,
-    /// The buffer has fewer than 3 words for each frame of the limit.
+    /// The buffer has fewer than 3 words for each frame of the limit; limit 0 asks for
+    /// [`USUAL_WORDS`](crate::USUAL_WORDS).
     TooFewWords = 43,
 }
 

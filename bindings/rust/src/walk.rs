@@ -176,10 +176,18 @@ impl Step {
     }
 }
 
-/// The whole trace from the registers of the crash, whatever their mark. Limit 0 means 64; otherwise it is 1 to 256.
+/// How many frames [`trace`] may write where its limit is 0: the usual limit, and its name. Who passes it in place of 0
+/// lends enough with [`USUAL_WORDS`], whatever 0 means in the archive that is linked.
+pub const USUAL_LIMIT: u64 = 128;
+
+/// How many words a buffer has for the usual limit.
+pub const USUAL_WORDS: usize = 3 * USUAL_LIMIT as usize;
+
+/// The whole trace from the registers of the crash, whatever their mark. Limit 0 means [`USUAL_LIMIT`], which is 128
+/// (before version 0.5.0 it was 64); otherwise it is 1 to 256.
 ///
-/// The buffer has at least 3 words for each frame of the limit: 192 for limit 0. [`frames`] reads it. Every word behind
-/// the frames that the answer counts keeps what it held.
+/// The buffer has at least 3 words for each frame of the limit: [`USUAL_WORDS`] for limit 0, 768 for 256. [`frames`]
+/// reads it. Every word behind the frames that the answer counts keeps what it held.
 ///
 /// ```
 /// use suntimpani::example::SECTION_S;

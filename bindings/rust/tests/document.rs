@@ -4,7 +4,7 @@
 use suntimpani::example::SECTION_S as S;
 use suntimpani::{check, frames, lookup, trace};
 use suntimpani::{Answer, Base, Ending, Frame, Outcome, Place, Process, Refusal, Registers, Row, Rule};
-use suntimpani::{Step, Traced, Unsound, Verdict};
+use suntimpani::{Step, Traced, Unsound, Verdict, USUAL_LIMIT, USUAL_WORDS};
 
 const ADDRESS: u64 = 0x40_0000;
 const PROCESS: Process = Process { section_address: ADDRESS, stack_address: 0x7000, mask: 0 };
@@ -94,8 +94,34 @@ fn traces_that_are_refused_write_nothing() {
     let high = Process { stack_address: u64::MAX, ..PROCESS };
     assert_eq!(refused(&S, high, 257, 0), Ending::Refused(Refusal::Window));
     assert_eq!(refused(&S, PROCESS, 257, 0), Ending::Refused(Refusal::LimitAbove));
-    assert_eq!(refused(&S, PROCESS, 0, 191), Ending::Refused(Refusal::TooFewWords));
-    assert_eq!(refused(&overlapping(1), PROCESS, 0, 192), Ending::Unsound(Unsound { rule: Rule::Sorted, index: 1 }));
+    assert_eq!(refused(&S, PROCESS, 64, 191), Ending::Refused(Refusal::TooFewWords));
+    assert_eq!(refused(&overlapping(1), PROCESS, 64, 192), Ending::Unsound(Unsound { rule: Rule::Sorted, index: 1 }));
+    // Limit 0 asks for the words of the usual limit: what it asked for before is not enough.
+    for words in [0, 192, USUAL_WORDS - 1] {
+        assert_eq!(refused(&S, PROCESS, 0, words), Ending::Refused(Refusal::TooFewWords), "{words}");
+    }
+}
+
+// The second function of S has called itself.
+#[test]
+fn the_usual_limit_is_what_0_stands_for() {
+    let walk = |calls: usize, limit, words: usize| {
+        let stack = vec![0x40_1044_u64.to_le_bytes(); calls];
+        let mut buffer = vec![9; words];
+        let traced = trace(&S, stack.as_flattened(), PROCESS, CRASH, limit, &mut buffer);
+        (traced, buffer)
+    };
+    assert_eq!((USUAL_LIMIT, USUAL_WORDS), (128, 384));
+    for (calls, words) in [(127, 384), (128, 384), (129, 384), (129, 385), (129, 383), (200, 768)] {
+        assert_eq!(walk(calls, 0, words), walk(calls, USUAL_LIMIT, words), "{calls} calls, {words} words");
+    }
+    let (traced, words) = walk(129, 0, USUAL_WORDS + 1);
+    assert_eq!(traced, Traced { frames: USUAL_LIMIT, ending: Ending::Full });
+    assert_eq!(words[USUAL_WORDS - 3..], [0x7000 + 8 * 128, 0x40_1044, 0x7030, 9]);
+    let outside = Ending::Refused(Refusal::WordOutside);
+    assert_eq!(walk(127, 0, USUAL_WORDS).0, Traced { frames: 127, ending: outside });
+    // Who relied on 64 frames passes 64.
+    assert_eq!(walk(129, 64, 192).0, Traced { frames: 64, ending: Ending::Full });
 }
 
 #[test]

@@ -1,5 +1,6 @@
 -- Demand 3 holds of what the contracts of our four functions name: lookups in sections that list the same functions find the same
--- (OrderLaws), and a step and a trace know a section through its machine and its lookups alone.
+-- (OrderLaws), and a step and a trace know a section through its machine and its lookups alone; a trace knows its limit through the one in
+-- force.
 -- Assumes nothing.
 use mathlib.Core.Path.{_≡_, sym, _∙_}
 use mathlib.Core.Bool.{true}
@@ -19,7 +20,7 @@ use Rattle.caller.specs.computed.Caller.{stepIn}
 use Rattle.caller.specs.declared.registers.Registers.{Registers}
 use Rattle.caller.specs.declared.registers.Process.{Process}
 use Rattle.caller.proofs.Exactly.{through-look}
-use Rattle.trace.proofs.Exactly.{trace-through-look}
+use Rattle.trace.proofs.Exactly.{trace-in-force, trace-through-look}
 use Rattle.promises.specs.Demand3.{Alike, Counts, Demand3}
 use Rattle.promises.specs.computed.Ours.{ours}
 use Rattle.promises.proofs.Demand2Met.{demand-2-ours}
@@ -80,9 +81,10 @@ demand-3-ours =
       rows = rows-same;
       callers = λ s t stack alike. callers-same s t alike stack;
       traces =
-          λ s t stack alike process registers limit old.
+          λ s t stack alike process registers limit other same old.
           trace-through-look s t stack process registers limit old (accepted-s s t alike) (accepted-t s t alike) (same-shape s t (alike .same))
-          (looks-same s t alike (process .section));
+          (looks-same s t alike (process .section))
+          ∙ trace-in-force t stack process registers limit other old same;
       counts = counts-ours;
       sorted-counts = counts-same;
     }

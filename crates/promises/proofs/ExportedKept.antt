@@ -8,11 +8,11 @@ use Rattle.suntimpani.specs.Flat.{handedAs}
 use Rattle.suntimpani.proofs.Lossless.{check-read-back, lookup-read-back, caller-read-back, trace-read-back}
 use Rattle.promises.specs.Contracts.{Keeps}
 use Rattle.promises.specs.Exported.{FlatCalls, readCalls, flatCalls, exported, FlatKeeps, FlatGivenBy, FlatDemands, FlatPromised}
-use Rattle.promises.specs.Table.{Holds, table, aarch64Table, lastCallTable, signedTable}
+use Rattle.promises.specs.Table.{Holds, table, aarch64Table, lastCallTable, signedTable, limitTable}
 use Rattle.promises.specs.computed.Ours.{ours}
 use Rattle.promises.specs.inner.Lent.{lent}
 use Rattle.promises.proofs.ContractLaws.{contracts-kept, somewhere}
-use Rattle.promises.proofs.Kept.{promises-kept, table-kept, aarch64-kept, last-calls-kept, signed-rows-kept}
+use Rattle.promises.proofs.Kept.{promises-kept, table-kept, aarch64-kept, last-calls-kept, signed-rows-kept, limits-kept}
 use Rattle.promises.proofs.NoChoice.{demands-ours-alone}
 use Rattle.promises.proofs.SameCalls.{same-calls}
 
@@ -68,7 +68,7 @@ module _ (flat : FlatCalls) (keeps : FlatKeeps flat) where
   unfolding exported
   flat-is-flattened = flat-are-exported flat keeps ∙ ap flatCalls (sym read-is-ours)
 
-  -- K1 to K12, the AArch64 examples and those of requests 03 and 04, as a program in C reads them
+  -- K1 to K12, the AArch64 examples and those of requests 03, 04 and 06, as a program in C reads them
   pub table-exported : (mask lr first a b c d e f : ℕ) → Holds (readCalls flat) (table mask lr first a b c d e f)
   table-exported = table-kept (readCalls flat) read-keeps
 
@@ -80,6 +80,9 @@ module _ (flat : FlatCalls) (keeps : FlatKeeps flat) where
 
   pub signed-rows-exported : (a b c d e f : ℕ) → Holds (readCalls flat) (signedTable a b c d e f)
   signed-rows-exported = signed-rows-kept (readCalls flat) read-keeps
+
+  pub limits-exported : Holds (readCalls flat) limitTable
+  limits-exported = limits-kept (readCalls flat) read-keeps
 
 pub exports-promised : FlatPromised
 exports-promised flat keeps =

@@ -6,14 +6,14 @@ use Prim.Native.Nat.{ℕ}
 use Rattle.promises.specs.Calls.{Calls}
 use Rattle.promises.specs.Contracts.{Keeps}
 use Rattle.promises.specs.Promises.{Demands, Promised}
-use Rattle.promises.specs.Table.{Holds, table, aarch64Table, lastCallTable, signedTable}
+use Rattle.promises.specs.Table.{Holds, table, aarch64Table, lastCallTable, signedTable, limitTable}
 use Rattle.promises.specs.computed.Ours.{ours}
 use Rattle.promises.proofs.ContractLaws.{check-is, lookup-is, step-is, trace-is}
 use Rattle.promises.proofs.Demand1Met.{demand-1-ours}
 use Rattle.promises.proofs.Demand2Met.{demand-2-ours}
 use Rattle.promises.proofs.Demand3Met.{demand-3-ours}
 use Rattle.promises.proofs.SameCalls.{same-calls}
-use Rattle.promises.proofs.TableHolds.{table-holds, aarch64-holds, last-calls-hold, signed-rows-hold}
+use Rattle.promises.proofs.TableHolds.{table-holds, aarch64-holds, last-calls-hold, signed-rows-hold, limits-hold}
 
 pub kept-are-ours : (calls : Calls) → Keeps calls → calls ≡ ours
 unfolding ours
@@ -25,7 +25,7 @@ promises-kept calls keeps =
     subst Demands (sym (kept-are-ours calls keeps))
     (record { demand-1 = demand-1-ours; demand-2 = demand-2-ours; demand-3 = demand-3-ours })
 
--- so such calls reply to K1 to K12 and the AArch64 examples as document 01 says, and to those of requests 03 and 04
+-- so such calls reply to K1 to K12 and the AArch64 examples as document 01 says, and to those of requests 03, 04 and 06
 pub table-kept : (calls : Calls) → Keeps calls → (mask lr first a b c d e f : ℕ) → Holds calls (table mask lr first a b c d e f)
 table-kept calls keeps mask lr first a b c d e f =
     subst (λ these. Holds these (table mask lr first a b c d e f)) (sym (kept-are-ours calls keeps)) (table-holds mask lr first a b c d e f)
@@ -39,3 +39,6 @@ last-calls-kept calls keeps = subst (λ these. Holds these lastCallTable) (sym (
 pub signed-rows-kept : (calls : Calls) → Keeps calls → (a b c d e f : ℕ) → Holds calls (signedTable a b c d e f)
 signed-rows-kept calls keeps a b c d e f =
     subst (λ these. Holds these (signedTable a b c d e f)) (sym (kept-are-ours calls keeps)) (signed-rows-hold a b c d e f)
+
+pub limits-kept : (calls : Calls) → Keeps calls → Holds calls limitTable
+limits-kept calls keeps = subst (λ these. Holds these limitTable) (sym (kept-are-ours calls keeps)) limits-hold

@@ -1,11 +1,11 @@
--- K1 to K12 of document 01, one statement over the whole table, and beside it the three AArch64 examples and those of requests 03 and 04: by
+-- K1 to K12 of document 01, one statement over the whole table, and beside it the three AArch64 examples and those of requests 03, 04 and 06: by
 -- computing what the contracts of our four functions name.
 -- Assumes nothing.
 use mathlib.Core.Path.{refl}
 use Prim.Native.Nat.{ℕ}
 use Rattle.section.specs.SectionS.{sectionS, overlappingS, unsortedS, atEntry, withFrame}
 use Rattle.trace.specs.inner.Opened.{traceOpened}
-use Rattle.promises.specs.Table.{replyTo, Holds, loaded, at, stackWindow, crashed, agreed, table, littleLeaf, bigLeaf, inLeaf, ofLeaf, aarch64Table, adjacentS, lateS, repeatedS, belowS, callWindow, called, ofCall, lyingAt, byEntry, byFrame, lastCallTable, sealedRows, littleSealed, bigSealed, signedS, sealedWindow, sealed, ofSealed, fromSealed, usualMask, signedTable}
+use Rattle.promises.specs.Table.{replyTo, Holds, loaded, at, stackWindow, crashed, agreed, table, littleLeaf, bigLeaf, inLeaf, ofLeaf, aarch64Table, adjacentS, lateS, repeatedS, belowS, callWindow, called, ofCall, lyingAt, byEntry, byFrame, lastCallTable, sealedRows, littleSealed, bigSealed, signedS, sealedWindow, sealed, ofSealed, fromSealed, usualMask, signedTable, deepWindow, deepWords, ofDeep, fullAt, shutWith, limitTable}
 use Rattle.promises.specs.computed.Ours.{ours}
 
 pub table-holds : (mask lr first a b c d e f : ℕ) → Holds ours (table mask lr first a b c d e f)
@@ -26,3 +26,7 @@ pub signed-rows-hold : (a b c d e f : ℕ) → Holds ours (signedTable a b c d e
 unfolding traceOpened sectionS ours replyTo loaded agreed sealedRows littleSealed bigSealed signedS sealedWindow sealed ofSealed fromSealed usualMask signedTable
 signed-rows-hold a b c d e f =
     (refl, (refl, (refl, (refl, (refl, (refl, (refl, (refl, (refl, (refl, (refl, (refl, (refl, tt)))))))))))))
+
+pub limits-hold : Holds ours limitTable
+unfolding traceOpened sectionS ours replyTo loaded crashed agreed deepWindow deepWords ofDeep fullAt shutWith limitTable
+limits-hold = (refl, (refl, (refl, (refl, (refl, (refl, tt))))))

@@ -14,6 +14,7 @@ use Rattle.lookup.specs.Finding.{findingOf}
 use Rattle.lookup.specs.Halving.{landing}
 use Rattle.caller.specs.declared.registers.Registers.{Registers}
 use Rattle.caller.specs.declared.registers.Process.{Process}
+use Rattle.trace.specs.Frames.{inForce}
 use Rattle.promises.specs.Calls.{Calls}
 use Rattle.promises.specs.Demand2.{Demand2}
 use Rattle.promises.specs.SameFunctions.{SameFunctions}
@@ -44,9 +45,9 @@ pub record Demand3 (calls : Calls) : Type 0 where
   -- the same caller, or refusal number with the old registers; "with equal masks", since the process is the same
   pub callers : (s t stack : List ℕ) → Alike calls s t → (process : Process) (registers : Registers)
       → calls .step s stack process registers ≡ calls .step t stack process registers
-  -- "same trace": words, frame count and ending
-  pub traces : (s t stack : List ℕ) → Alike calls s t → (process : Process) (registers : Registers) (limit : ℕ) (old : List ℕ)
-      → calls .trace s stack process registers limit old ≡ calls .trace t stack process registers limit old
+  -- "same trace": words, frame count and ending; request 06, "Demand 3 reads with the limit in force": the limits may be two
+  pub traces : (s t stack : List ℕ) → Alike calls s t → (process : Process) (registers : Registers) (limit other : ℕ) → inForce limit ≡ inForce other
+      → (old : List ℕ) → calls .trace s stack process registers limit old ≡ calls .trace t stack process registers other old
   pub counts : (s : List ℕ) → calls .check s ≡ Accepted → (address pc : ℕ) → Counts calls s address pc
   -- "function indexes and, unsorted, counts may differ": sorted, they do not
   pub sorted-counts : (s t : List ℕ) → Alike calls s t → layoutOf s .sorted ≡ true → layoutOf t .sorted ≡ true → (address pc : ℕ)

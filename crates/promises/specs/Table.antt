@@ -1,8 +1,9 @@
--- Document 01, "Numbers to agree on" (SPECIFICATION 7.1 to 7.4): K1 to K12 as a single table of sections, questions and expected
--- replies, and beside it the three AArch64 examples, which bear no K, and those of request 03. The replies are asked of any four calls.
+-- Document 01, "Numbers to agree on" (SPECIFICATION 7.1 to 7.5, and 7.7): K1 to K12 as a single table of sections, questions and expected
+-- replies, and beside it the three AArch64 examples, which bear no K, and those of requests 03, 04 and 06. The replies are asked of any four
+-- calls.
 use mathlib.Core.Path.{_≡_}
 use mathlib.Core.List.{List, [], _∷_, _++_}
-use Prim.Native.Nat.{ℕ, _^_, _-_}
+use Prim.Native.Nat.{ℕ, zero, suc, _+_, _^_, _-_}
 use lib.ListN.{take, replicate, set}
 use Rattle.section.specs.SectionS.{sectionS, overlappingS, unsortedS, atEntry, withFrame}
 use Rattle.accept.specs.declared.verdict.Verdict.{Verdict}
@@ -280,4 +281,40 @@ signedTable a b c d e f =
     (aTrace (tracedAs (record { ending = ending.Refused 24; frames = 0 }) (a ∷ b ∷ c ∷ d ∷ e ∷ f ∷ [])))
     -- AMD64: the bit is ignored, and nothing is cleared
     ∷ agreed signedS (ofSealed (2 ^ 64 - 1) 0x401003 0x7000 1) (fromSealed 0x0011000000007030 0x7008 0x7030 0x0035000000401009)
+    ∷ []
+
+-- ---- request 06: "Limit 0 should mean 128."
+
+-- the second function of S has called itself so often, each time from 0x401043 on: the words of the stack, which are return addresses, and
+-- the words of the frames, from this CFA on
+unfoldable pub deepWindow : ℕ → List ℕ
+deepWindow zero = []
+deepWindow (suc calls) = 0x44 ∷ 0x10 ∷ 0x40 ∷ 0 ∷ 0 ∷ 0 ∷ 0 ∷ 0 ∷ deepWindow calls
+
+unfoldable pub deepWords : ℕ → ℕ → List ℕ
+deepWords cfa zero = []
+deepWords cfa (suc frames) = cfa ∷ 0x401044 ∷ 0x7030 ∷ deepWords (cfa + 8) frames
+
+-- a trace with this limit, of so many calls, into so many words
+unfoldable pub ofDeep : ℕ → ℕ → ℕ → Question
+ofDeep limit calls words = askTrace (deepWindow calls) (loaded 0) (crashed 0 1) limit (replicate words 7)
+
+unfoldable pub fullAt : ℕ → List ℕ → Reply
+fullAt frames behind = aTrace (tracedAs (record { ending = ending.Full; frames = frames }) (deepWords 0x7008 frames ++ behind))
+
+unfoldable pub shutWith : ℕ → ℕ → Reply
+shutWith number words = aTrace (tracedAs (record { ending = ending.Shut number; frames = 0 }) (replicate words 7))
+
+unfoldable pub limitTable : List Agreed
+limitTable =
+    -- 0 walks 128 frames into 384 words, and so does 128
+    agreed sectionS (ofDeep 0 129 384) (fullAt 128 [])
+    ∷ agreed sectionS (ofDeep 128 129 384) (fullAt 128 [])
+    -- a word behind the frames keeps what it held
+    ∷ agreed sectionS (ofDeep 0 129 385) (fullAt 128 (7 ∷ []))
+    -- a word fewer is 43
+    ∷ agreed sectionS (ofDeep 0 129 383) (shutWith 43 383)
+    -- "older builds lend 192 words and pass 0, and would now get 43, so our own callers that relied on 64 must pass 64"
+    ∷ agreed sectionS (ofDeep 0 129 192) (shutWith 43 192)
+    ∷ agreed sectionS (ofDeep 64 129 192) (fullAt 64 [])
     ∷ []

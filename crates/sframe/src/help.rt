@@ -38,7 +38,7 @@ fn show_arguments() {
         b"MASK has the bits of a signature, which are cleared from a signed RA (AArch64); left out it is 0: no such RA is taken.\n",
     );
     say(
-        b"LIMIT is the most frames, up to 256, and 0 stands for 64. INDEX counts the functions from 0.\n",
+        b"LIMIT is the most frames, up to 256, and 0 stands for 128. INDEX counts the functions from 0.\n",
     );
     say(b"LIMIT and INDEX are decimal, 1 to 19 digits.\n");
     say(

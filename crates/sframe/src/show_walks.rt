@@ -11,6 +11,7 @@ use caller::registers::Step;
 use caller::registers::asked_of;
 use trace::answer::Ending;
 use trace::answer::Traced;
+use trace::walk::in_force;
 
 fn show_register(name: &[u8], value: u64) {
     say(name);
@@ -128,5 +129,14 @@ pub fn show_trace(crash: Registers, traced: Traced, words: &[u64]) {
         Ending::Refused(number) => show_refused_trace(crash, words, traced.frames, number),
         Ending::Shut(number) => show_refused(number),
         Ending::Unsound { number, index } => show_unsound(number, index),
+    }
+}
+
+// The limit in force, where another number was given for it.
+pub fn show_limit(limit: u64) {
+    if limit == 0 {
+        say(b"limit in force: ");
+        say_number(in_force(limit));
+        say(b"\n");
     }
 }

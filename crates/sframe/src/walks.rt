@@ -3,6 +3,7 @@ use crate::arguments::Loaded;
 use crate::arguments::count_given;
 use crate::arguments::file_given;
 use crate::arguments::number_given;
+use crate::show_walks::show_limit;
 use crate::show_walks::show_step;
 use crate::show_walks::show_trace;
 use caller::registers::Process;
@@ -133,6 +134,7 @@ fn answer_trace(
     masked.mask = mask;
     let mut buffer = words_room();
     trace_into(section, stack, masked, registers, limit, &mut buffer);
+    show_limit(limit);
 }
 
 fn answer_from(asked: Sought, section: &[u8], address: u64, stack: &[u8], given: usize) {

@@ -1,13 +1,13 @@
 -- What is tried before the walk: the door, test by test as the code makes them and by its three rules, and then the section.
 -- Assumes nothing.
-use borrow.Author.Tests.{lt-ltb, le-ltb}
+use borrow.Author.Tests.{lt-ltb, le-ltb, eqb-true}
 use mathlib.Core.Path.{_≡_, refl, sym, _∙_, ap}
 use mathlib.Core.Bool.{Bool, true, false}
 use mathlib.Core.List.{List, [], _∷_}
 use mathlib.Core.Logic.{inl, inr, _↔_, Iff·trans, ⊎-elim}
 use Prim.Native.Nat.{ℕ, _+_, _*_, _^_, _≤_, _<_}
 use native.Mathlib.Omega.{arith}
-use lib.Dec.{eqb}
+use lib.Dec.{eqb, ltb}
 use lib.ListN.{length}
 use Rattle.numbers.specs.computed.Address.{windowFits}
 use Rattle.accept.specs.computed.Checks.{firstBad, verdict}
@@ -34,6 +34,12 @@ pub in-force-small : (limit : ℕ) → limit ≤ 256 → inForce limit ≤ 256
 unfolding inForce
 in-force-small limit small =
     by-value (eqb limit 0) (λ e. rw (e, inForce) (omega arith)) (λ e. rw (e, inForce) small)
+
+-- 42 can be told from it as well
+pub in-force-above : (limit : ℕ) → ltb 256 limit ≡ ltb 256 (inForce limit)
+unfolding inForce
+in-force-above limit =
+    by-value (eqb limit 0) (λ e. ap (λ l. ltb 256 l) (eqb-true limit 0 e) ∙ rw (e, inForce) refl) (λ e. rw (e, inForce) refl)
 
 -- ---- the door, test by test
 

@@ -28,25 +28,37 @@ use Rattle.caller.proofs.Exactly.{cfa-of-caller}
 use Rattle.trace.specs.Cases.{LimitAbove, TooFewWords, AtDoor, DoorOpen, noFrame, Follows, EndsOutermost, EndsFull, EndsRefused, WalkMade, OnTrace, Case}
 use Rattle.trace.specs.Frames.{TraceReply, inForce, frameOf, withMark, allWords, over, tracedAs}
 use Rattle.trace.specs.Numbers.{TraceCause, window, limitAbove, tooFewWords, unsound, refused, outermost, full, numberOfTraceCause, endingNumber, endingIndexes}
-use Rattle.trace.specs.computed.Trace.{Walk, walkOf, checkedWalk, walkAfter, walkIn, traced, traceOf}
+use Rattle.trace.specs.computed.Trace.{Walk, walkOf, checkedWalk, doorTests, doorFault, walkAfter, walkIn, traced, traceOf}
 use Rattle.trace.specs.declared.answer.Ending.{Ending}
 use Rattle.trace.specs.declared.answer.Ending.the-variants.{Outermost, Full, Refused, Shut, Unsound}
 use Rattle.trace.specs.declared.answer.Frame.{Frame}
 use Rattle.trace.proofs.BufferLaws.{over-length, over-first, over-after, over-kept, all-length, all-at}
-use Rattle.trace.proofs.DoorLaws.{in-force-small, not-open}
+use Rattle.trace.proofs.DoorLaws.{in-force-small, in-force-above, not-open}
 use Rattle.trace.proofs.NumberLaws.{trace-distinct}
 use Rattle.trace.proofs.TraceLaws as laws
 use Rattle.trace.proofs.TraceLaws.{trace-case, case-whole, whole-follows, whole-room, whole-none, trace-given}
 
--- ---- "Limit 0 means 64; otherwise 1 to 256."
+-- ---- "Limit 0 should mean 128"; "otherwise 1 to 256"
 
-pub in-force-0 : inForce 0 ≡ 64
+pub in-force-0 : inForce 0 ≡ 128
 unfolding inForce
 in-force-0 = refl
 
 pub in-force-else : (limit : ℕ) → ¬ (limit ≡ 0) → inForce limit ≡ limit
 unfolding inForce
 in-force-else limit other = rw (ne-eqb limit 0 other, inForce)
+
+-- a trace knows its limit by the one in force, alone: also whether it is above 256
+pub trace-in-force : (s stack : List ℕ) (process : Process) (registers : Registers) (limit other : ℕ) (old : List ℕ)
+    → inForce limit ≡ inForce other → traceOf s stack process registers limit old ≡ traceOf s stack process registers other old
+unfolding traceOf walkIn doorFault doorTests
+trace-in-force s stack process registers limit other old same = rw (in-force-above limit, in-force-above other, same)
+
+-- so 0 and 128 give the same words, frame count and ending, whatever is handed in beside them
+pub zero-as-128 : (s stack : List ℕ) (process : Process) (registers : Registers) (old : List ℕ)
+    → traceOf s stack process registers 0 old ≡ traceOf s stack process registers 128 old
+unfolding inForce
+zero-as-128 s stack process registers old = trace-in-force s stack process registers 0 128 old refl
 
 module _ (s stack : List ℕ) (process : Process) (registers : Registers) (limit : ℕ) (old : List ℕ) where
   abbrev trace : TraceReply

@@ -102,15 +102,25 @@ most-words : traceOf [] stack (process 0) (registers 0 0) 256 (replicate 767 7) 
 unfolding traceOpened stack process registers shutWith
 most-words = refl
 
--- "Limit 0 means 64": 192 words
-limit-0 : traceOf [] stack (process 0) (registers 0 0) 0 (replicate 191 7) ≡ shutWith 43 (replicate 191 7)
+-- "Limit 0 should mean 128": 384 words
+limit-0 : traceOf [] stack (process 0) (registers 0 0) 0 (replicate 383 7) ≡ shutWith 43 (replicate 383 7)
 unfolding traceOpened stack process registers shutWith
 limit-0 = refl
 
-limit-0-fits : traceOf [] stack (process 0) (registers 0 0) 0 (replicate 192 7)
-    ≡ tracedAs (record { ending = Unsound 1 0; frames = 0 }) (replicate 192 7)
+limit-0-fits : traceOf [] stack (process 0) (registers 0 0) 0 (replicate 384 7)
+    ≡ tracedAs (record { ending = Unsound 1 0; frames = 0 }) (replicate 384 7)
 unfolding traceOpened stack process registers
 limit-0-fits = refl
+
+-- "older builds lend 192 words and pass 0, and would now get 43", on any section; and who passes 64 lends enough
+older-build : (s : List ℕ) → traceOf s stack (process 0) (registers 0 0) 0 (replicate 192 7) ≡ shutWith 43 (replicate 192 7)
+unfolding traceOpened stack process registers shutWith
+older-build s = refl
+
+limit-64-fits : traceOf [] stack (process 0) (registers 0 0) 64 (replicate 192 7)
+    ≡ tracedAs (record { ending = Unsound 1 0; frames = 0 }) (replicate 192 7)
+unfolding traceOpened stack process registers
+limit-64-fits = refl
 
 -- ---- wrong traces
 

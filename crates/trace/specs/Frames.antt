@@ -10,9 +10,9 @@ use Rattle.caller.specs.declared.registers.Registers.{Registers}
 use Rattle.trace.specs.declared.answer.Frame.{Frame}
 use Rattle.trace.specs.declared.answer.Traced.{Traced}
 
--- "Limit 0 means 64; otherwise 1 to 256.": the limit in force
+-- request 06, "Limit 0 should mean 128", where document 01 had 64; "otherwise 1 to 256": the limit in force
 unfoldable pub inForce : ℕ → ℕ
-inForce limit = elim (eqb limit 0) [ true ↦ 64 | false ↦ limit ]
+inForce limit = elim (eqb limit 0) [ true ↦ 128 | false ↦ limit ]
 
 -- "CFA, RA, FP each": the frame of a step that yields these registers; they have "PC = RA", the SP that CFA gives, and "the new FP"
 unfoldable pub frameOf : Registers → Frame

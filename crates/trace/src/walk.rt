@@ -22,11 +22,12 @@ ghost use Rattle.trace.specs.Frames.{inForce, withMark, tracedAs};
 ghost use Rattle.trace.specs.computed.Trace.{doorFault, checkedWalk, traced, traceOf};
 
 // The limit that 0 stands for.
-const USUAL: u64 = 64;
+const USUAL: u64 = 128;
 // The highest limit.
 const MOST: u64 = 256;
 
-fn in_force(limit: u64) -> u64
+// How many frames a trace may have, for a limit that it does not refuse.
+pub fn in_force(limit: u64) -> u64
     ensures { λ r. ⌜ r ≡ inForce limit ⌝ }
 {
     if limit == 0 {
@@ -71,7 +72,8 @@ fn door_fault(stack: &[u8], process: Process, limit: u64, words: u64) -> Fault
     if MOST < limit {
         return Fault::Breaks(42);
     }
-    if words < 3 * in_force(limit) {
+    let frames = in_force(limit);
+    if words < 3 * frames {
         return Fault::Breaks(43);
     }
     Fault::Sound

@@ -58,7 +58,7 @@ fn walk(laid: &Laid, big: bool) -> Expected {
         Err(number) => Step::Refused { old, number },
     };
     let process = Process { section: laid.section, stack: laid.begin, mask: laid.mask };
-    let walk = Walk { process, registers: old, stack, limit: 0, words: 192 };
+    let walk = Walk { process, registers: old, stack, limit: 64, words: 192 };
     let walked = walk.stated(step, laid.frames, laid.ending);
     (walk, walked)
 }

@@ -1,4 +1,5 @@
-//! Walks by the limit and the lent buffer: 30, 31, 42, 43, what is counted as a frame, and the order of 41, 42 and 43.
+//! Walks by the limit and the lent buffer: 30, 31, 42, 43, what is counted as a frame, the order of 41, 42 and 43, and
+//! what limit 0 stands for.
 
 use super::walks::{at, from_sp, pc_in, shared_out, Expected, Ground};
 use super::Case;
@@ -47,7 +48,7 @@ const SHORT: [Recursion; 44] = [
     (2, Outermost, 3, 9),
     (3, Outermost, 3, 9),
     (4, Outermost, 3, 9),
-    // Words: none, one short, exact, more; 0 frames of a limit ask for as many words as 64 of them.
+    // Words: none, one short, exact, more; under limit 0 what 64 frames ask for, and more than it asks for itself.
     (2, Outermost, 1, 0),
     (2, Outermost, 1, 1),
     (2, Outermost, 1, 2),
@@ -93,12 +94,36 @@ fn short(machine: Machine) -> Case {
 fn long(machine: Machine) -> Case {
     let ground = ground(machine);
     let traces: &[Recursion] = match machine {
-        Machine::Amd64 => &[(64, Outermost, 0, 192), (257, Outermost, 256, 768)],
-        Machine::Aarch64 => &[(65, Outermost, 0, 193), (256, Outermost, 256, 769)],
+        Machine::Amd64 => &[(64, Outermost, 64, 192), (257, Outermost, 256, 768)],
+        Machine::Aarch64 => &[(65, Outermost, 64, 193), (256, Outermost, 256, 769)],
         Machine::Aarch64Big => &[(64, Called, 64, 192)],
     };
     let walks = traces.iter().map(|&(frames, last, limit, words)| recursion(&ground, frames, last, limit, words));
     ground.case("long", walks.collect())
+}
+
+/// Walks around the limit that 0 stands for, which 128 is too, by words and by frames.
+pub fn usual() -> Vec<Case> {
+    let of = |machine| {
+        let ground = ground(machine);
+        let walks = around_the_usual(machine).map(|(frames, last, limit, words)| {
+            recursion(&ground, frames, last, limit, words) //
+        });
+        ground.case("usual_limit", walks.collect())
+    };
+    Machine::ALL.map(of).into()
+}
+
+// What an older build lends, and a word too few, on every machine; of the long ones each has some.
+fn around_the_usual(machine: Machine) -> impl Iterator<Item = Recursion> {
+    let short =
+        [(129, Outermost, 0, 192), (127, Outermost, 0, 383), (128, Outermost, 0, 383), (129, Outermost, 0, 383)];
+    let long = match machine {
+        Machine::Amd64 => [(127, Outermost, 0, 384), (128, Outermost, 0, 384), (129, Outermost, 0, 384)],
+        Machine::Aarch64 => [(127, Outermost, 0, 385), (128, Outermost, 0, 385), (129, Outermost, 0, 385)],
+        Machine::Aarch64Big => [(127, Called, 0, 384), (128, Called, 0, 384), (129, Outermost, 128, 384)],
+    };
+    short.into_iter().chain([(129, Outermost, 128, 383)]).chain(long)
 }
 
 // 41 before 42 before 43, and all of them before the first step, which here is refused too: nothing covers the PC.
@@ -116,4 +141,38 @@ fn in_order(machine: Machine) -> Case {
         walk(8, 0, 0),
     ];
     ground.case("limits_in_order", walks)
+}
+
+#[cfg(test)]
+mod tests {
+    use super::*;
+    use crate::reader::{Ending, Traced, USUAL_FRAMES};
+
+    fn comes_to(walks: &[Expected]) -> Vec<(u64, u64)> {
+        let one = |(_, walked): &Expected| (walked.traced.frames, walked.traced.ending.number());
+        walks.iter().map(one).collect()
+    }
+
+    #[test]
+    fn the_usual_limit_is_walked_as_stated() {
+        let too_few = [(0, 43); 5];
+        let long =
+            [[(127, 30), (128, 30), (128, 31)], [(127, 30), (128, 30), (128, 31)], [(127, 28), (128, 31), (128, 31)]];
+        for (case, long) in usual().iter().zip(long) {
+            assert_eq!(comes_to(&case.walks), [&too_few[..], &long].concat(), "{}", case.name);
+        }
+    }
+
+    // Whatever is lent, both limits leave the same words, frame count and ending.
+    #[test]
+    fn limit_0_is_as_128() {
+        assert_eq!(USUAL_FRAMES, 128);
+        let ground = ground(Machine::Amd64);
+        for (frames, words) in [(127, 384), (128, 384), (129, 385), (129, 383), (129, 192), (200, 768), (0, 0)] {
+            let [zero, usual] = [0, 128].map(|limit| recursion(&ground, frames, Outermost, limit, words).1);
+            assert_eq!(zero, usual, "{frames} frames, {words} words");
+        }
+        let deep = recursion(&ground, 200, Outermost, 0, 768).1;
+        assert_eq!((deep.traced, deep.kept()), (Traced { frames: 128, ending: Ending::Full }, 384));
+    }
 }

@@ -154,7 +154,7 @@ pub fn in_refused(number: u64, index: u64, all: bool) -> Vec<Expected> {
     let mut walks = vec![walk(covered, 0x7000, 16, 2, 6)];
     if all {
         let far = Registers { pc: u64::MAX, sp: u64::MAX, fp: 0, lr: 7, first: 9 };
-        walks.push(walk(later(far), 0x7000, 0, 0, 192));
+        walks.push(walk(later(far), 0x7000, 0, 64, 192));
         // 41 before the section's refusal, and for a trace 42 and 43 too.
         walks.push(walk(far, u64::MAX, 2, 2, 6));
         walks.push(walk(covered, 0x7000, 16, 257, 1000));

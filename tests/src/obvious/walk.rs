@@ -158,8 +158,8 @@ pub fn trace(
     buffer: &mut [u64],
 ) -> Traced {
     let nothing = |ending| Traced { frames: 0, ending };
-    // "Limit 0 means 64; otherwise 1 to 256."
-    let in_force = if limit == 0 { 64 } else { i128::from(limit) };
+    // "otherwise 1 to 256", and by request 06 "Limit 0 should mean 128."
+    let in_force = if limit == 0 { 128 } else { i128::from(limit) };
     // "Before anything else, in order: 41 .., 42 .., 43 ..; then 1 to 15."
     if is_past_the_end(stack, process) {
         return nothing(Ending::Refused(41));

@@ -1,5 +1,5 @@
 //! A trace: the frames of a whole walk, as document 01 has it under "A trace". The section is checked once. By request
-//! 04 a signed RA is cleared before it is written and before it is held against 0.
+//! 04 a signed RA is cleared before it is written and before it is held against 0; by request 06 limit 0 is 128 frames.
 #![forbid(unsafe_code)]
 
 use super::caller::{Process, Registers, Window};
@@ -7,7 +7,8 @@ use super::lookup::Checked;
 use super::Refusal;
 
 const MOST_FRAMES: u64 = 256;
-const USUAL_FRAMES: u64 = 64;
+/// As many frames as limit 0 allows.
+pub const USUAL_FRAMES: u64 = 128;
 
 /// CFA, RA and FP.
 type Frame = [u64; 3];

@@ -1,9 +1,11 @@
 //! Walks to be made in a section of the stream: stacks full of PCs, of stack addresses and of 0, so that many of them
-//! go several frames deep, through signed rows too; registers, windows, masks, limits and buffers at their edges.
+//! go several frames deep, some as deep as a limit allows, through signed rows too; registers, windows, masks, limits
+//! and buffers at their edges.
 #![forbid(unsafe_code)]
 
 use super::{damaged, sound, Random};
 use crate::cases::signed::USUAL;
+use crate::laid::if_usable;
 use crate::maker::{Machine, Row, Section, SORTED};
 use crate::reader::{functions, Base, Checked, Function, Outcome, Place, Process, Registers};
 use crate::walk::Walk;
@@ -76,7 +78,19 @@ pub fn walks(random: &mut Random, section: &[u8]) -> Vec<Walk> {
         }
         walk
     };
-    (0..8).map(|_| one(random)).collect()
+    let mut walks: Vec<Walk> = (0..8).map(|_| one(random)).collect();
+    if random.once_in(8) {
+        walks.extend(deep(random, section));
+    }
+    walks
+}
+
+// About as many frames as the usual limit or the highest allows, if a row can be laid out, and about as many allowed.
+fn deep(random: &mut Random, section: &[u8]) -> Option<Walk> {
+    let (frames, mask) = (random.pick(&[126, 127, 128, 129, 200, 255, 256, 257]), mask(random));
+    let limit = random.pick(&[0, 0, 0, 0, 64, 127, 128, 129, 255, 256]);
+    let laid = if_usable(section, frames, random.number(), mask)?;
+    Some(Walk { limit, words: words_for(random, limit), ..laid })
 }
 
 // Frames that lead from one function to the next, as far as the window goes or something else ends them.
@@ -253,16 +267,19 @@ fn room(random: &mut Random) -> (u64, usize) {
         5..=9 => 1 + random.below(3),
         _ => 1 + random.below(20),
     };
+    (limit, words_for(random, limit))
+}
+
+fn words_for(random: &mut Random, limit: u64) -> usize {
     let asked = match limit {
-        0 => 192,
+        0 => 384,
         1..=256 => 3 * limit as usize,
         _ => random.index(800),
     };
-    let words = match random.below(12) {
+    match random.below(12) {
         0 => asked.saturating_sub(1 + random.index(3)),
         1 => asked + random.index(5),
         2 => random.index(asked + 1),
         _ => asked,
-    };
-    (limit, words)
+    }
 }

@@ -109,7 +109,10 @@ fn print_notes() {
         "entry: a function by its index, of 1,000 indexes all over the section; the header is checked by each call."
     );
     println!("find: a lookup in a section that was checked once. caller, trace: one call with its check.");
-    println!("frame: one of a trace's 64 frames, the check taken off, where it is not lost in the check's time.");
+    println!(
+        "frame: one of a trace's frames, 64 where no other number is told, the check taken off, where it is not lost in"
+    );
+    println!("the check's time; 128 frames are those of limit 0.");
     println!("signed: every row has the signed bit, and the trace a mask that clears a signature from each RA.");
     println!(
         "libsframe: sframe_decode and sframe_decoder_free beside check, sframe_find_fre beside find. A decode looks at"

@@ -1,15 +1,17 @@
 //! The sections that are timed.
 
 use suntimpani_tests::maker::{Function, Machine, Row, Section, SORTED};
-use suntimpani_tests::reader::{functions, Process, Registers};
+use suntimpani_tests::reader::{functions, Process, Registers, USUAL_FRAMES};
 use suntimpani_tests::stream::Random;
 use suntimpani_tests::walk::Walk;
 use suntimpani_tests::{cases, laid, large, ADDRESS};
 
 const SEED: u64 = 20_260_102;
 
-/// How many frames a timed trace has.
-pub const FRAMES: u64 = 64;
+/// How many frames a timed trace has in a section of any size; and in the small ones also the usual limit's, and the
+/// highest limit's.
+const FRAMES: u64 = 64;
+const DEEPER: [u64; 2] = [USUAL_FRAMES, 256];
 
 /// How many functions the section has that is made to be listed.
 const LISTED: usize = 150_000;
@@ -39,7 +41,8 @@ pub struct Timed {
 pub const MASK: u64 = 0x007f_0000_0000_0000;
 
 /// Sections of every size by one construction, one that is not sorted, a large one of the corpus, one of many rows to
-/// be listed and, for the frames of a trace, three small ones; the last is as the one before it, with every row signed.
+/// be listed and, for the frames of a trace, three small ones, the last as the one before it with every row signed; and
+/// these once more for deeper traces.
 pub fn all() -> Vec<Timed> {
     let mut all = of_asks();
     let bytes = large::functions_of_four_rows(LISTED).bytes();
@@ -55,7 +58,8 @@ pub fn all() -> Vec<Timed> {
         checked: false,
         listed: false,
     });
-    all.extend(small());
+    all.extend(small(FRAMES));
+    all.extend(DEEPER.into_iter().flat_map(of_depth));
     all
 }
 
@@ -97,25 +101,35 @@ fn mostly_rows() -> Section {
     section
 }
 
-/// The sections in which a frame of a trace can be told: 100 functions, and the small ones.
+/// The sections in which a frame of a trace can be told, for traces of each depth.
 pub fn of_frames() -> Vec<Timed> {
-    let hundred = whole(name_of(100, ""), large::many_functions(100).bytes());
-    [hundred].into_iter().chain(small()).collect()
+    [FRAMES].into_iter().chain(DEEPER).flat_map(of_depth).collect()
 }
 
-fn small() -> Vec<Timed> {
-    let of_traces = |name: &str, bytes, walk| {
-        let name = name.to_string();
-        Timed { name, bytes, pcs: Vec::new(), walk: Some(walk), checked: false, listed: false }
-    };
-    let of_s = of_traces("S of document 01, one function calls itself", cases::S.to_vec(), calls_itself());
+// 100 functions, and the small ones, for a trace of so many frames.
+fn of_depth(frames: u64) -> Vec<Timed> {
+    let hundred = large::many_functions(100).bytes();
+    let walk = laid::through(&hundred, frames as usize, SEED);
+    [of_traces(&name_of(100, ""), hundred, walk)].into_iter().chain(small(frames)).collect()
+}
+
+fn small(frames: u64) -> Vec<Timed> {
+    let of_s = of_traces("S of document 01, one function calls itself", cases::S.to_vec(), calls_itself(frames));
     let big = small_big_endian(false);
-    let walk = laid::through(&big, FRAMES as usize, SEED);
+    let walk = laid::through(&big, frames as usize, SEED);
     let plain = of_traces("AArch64 big-endian: 4 functions", big, walk);
     let signed = small_big_endian(true);
-    let walk = laid::through_signed(&signed, FRAMES as usize, SEED, MASK);
+    let walk = laid::through_signed(&signed, frames as usize, SEED, MASK);
     let signed = of_traces("AArch64 big-endian: 4 functions, signed", signed, walk);
     vec![of_s, plain, signed]
+}
+
+// Traces alone. The usual number of frames has limit 0; a number other than that of the other tables is told.
+fn of_traces(name: &str, bytes: Vec<u8>, walk: Walk) -> Timed {
+    let frames = walk.limit;
+    let name = if frames == FRAMES { name.to_string() } else { format!("{name}, {frames} frames") };
+    let walk = Walk { limit: if frames == USUAL_FRAMES { 0 } else { frames }, ..walk };
+    Timed { name, bytes, pcs: Vec::new(), walk: Some(walk), checked: false, listed: false }
 }
 
 fn whole(name: String, bytes: Vec<u8>) -> Timed {
@@ -141,16 +155,16 @@ pub fn pcs_over(section: &[u8], count: usize) -> Vec<u64> {
 }
 
 // A chain of frame pointers in the first function of S: FP and RA in 16 bytes a frame, and the stack's end at its top.
-fn calls_itself() -> Walk {
+fn calls_itself(frames: u64) -> Walk {
     let (begin, pc) = (0x7000, 0x40_1008);
-    let chain = (1..=FRAMES).flat_map(|frame| [begin + 16 * frame, if frame == FRAMES { 0 } else { pc }]);
+    let chain = (1..=frames).flat_map(|frame| [begin + 16 * frame, if frame == frames { 0 } else { pc }]);
     let registers = Registers { pc, sp: begin, fp: begin, lr: 0, first: 1 };
     Walk {
         process: Process { section: 0x40_0000, stack: begin, mask: 0 },
         registers,
         stack: chain.flat_map(u64::to_le_bytes).collect(),
-        limit: FRAMES,
-        words: 3 * FRAMES as usize,
+        limit: frames,
+        words: 3 * frames as usize,
     }
 }
 

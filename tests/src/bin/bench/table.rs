@@ -145,7 +145,7 @@ pub fn print_stack(call: &str, calls: usize, bytes: usize) {
 fn print_cells(cells: [&str; 7]) {
     let [call, section, library, reader, to_reader, libsframe, to_libsframe] = cells;
     println!(
-        "{call:<6}  {section:<43}  {library:>8}  {reader:>8}  {to_reader:>10}  {libsframe:>9}  {to_libsframe:>13}"
+        "{call:<6}  {section:<55}  {library:>8}  {reader:>8}  {to_reader:>10}  {libsframe:>9}  {to_libsframe:>13}"
     );
 }
 

@@ -2,7 +2,7 @@
 //!
 //! What is timed is first seen to come to the same on all sides.
 
-use crate::sections::{Timed, FRAMES};
+use crate::sections::Timed;
 use crate::table::Line;
 use std::hint::black_box;
 use suntimpani_tests::library::{self, LIBRARY};
@@ -151,7 +151,7 @@ pub fn of_caller(timed: &Timed, _: Option<&Libsframe>) -> Vec<Line> {
 pub fn of_trace(timed: &Timed, _: Option<&Libsframe>) -> Vec<Line> {
     let Some(walk) = &timed.walk else { return Vec::new() };
     let section = &timed.bytes[..];
-    assert_alike_by_walk(timed, walk);
+    let count = assert_alike_by_walk(timed, walk);
     let (mut of_library, mut of_reader) = (lent(walk.words), lent(walk.words));
     let mut library = || discard(library_trace(black_box(section), walk, &mut of_library));
     let mut reader = || discard(reader_trace(black_box(section), walk, &mut of_reader));
@@ -163,22 +163,25 @@ pub fn of_trace(timed: &Timed, _: Option<&Libsframe>) -> Vec<Line> {
     let frames: Vec<Times> = times.iter().zip(&checks).map(|(whole, check)| whole.above(check)).collect();
     // Where a trace is little more than its check, a frame's share is lost in the noise.
     let can_be_told = frames.iter().zip(&times).all(|(frames, whole)| frames.median() > whole.median() / 2.0);
-    let frame = frames.iter().map(|frames| frames.divided_by(FRAMES as usize)).collect();
+    let frame = frames.iter().map(|frames| frames.divided_by(count)).collect();
     let mut lines = vec![line("trace", timed, times)];
     lines.extend(can_be_told.then(|| line("frame", timed, frame)));
     lines
 }
 
-// Both sides make the same walk, word for word, to the outermost frame.
-fn assert_alike_by_walk(timed: &Timed, walk: &Walk) {
+// Both sides make the same walk, word for word, to the outermost frame, for which the buffer has just room: how many
+// frames that are.
+fn assert_alike_by_walk(timed: &Timed, walk: &Walk) -> usize {
     let (section, name) = (&timed.bytes[..], &timed.name);
     let walked = walk.by_reader(section);
-    assert_eq!((walked.traced.frames, walked.traced.ending.number()), (FRAMES, 30), "{name}");
+    let frames = walk.words / 3;
+    assert_eq!((walked.traced.frames, walked.traced.ending.number()), (frames as u64, 30), "{name}");
     let step = LIBRARY.step(section, &walk.stack, walk.process, walk.registers);
     assert_eq!(step, library::Step::of(&walked.step), "{name}");
     let mut words = lent(walk.words);
     let traced = library_trace(section, walk, &mut words);
     assert_eq!((traced, words), (library::Traced::of(&walked.traced), walked.words), "{name}");
+    frames
 }
 
 fn library_trace(section: &[u8], walk: &Walk, buffer: &mut [u64]) -> library::Traced {

@@ -21,17 +21,17 @@ returns-2 : tie.Need-returns-2
 returns-2 c = door-limit _ _ _ _ (fits (c .before)) (c .if2 .taken)
 
 mul-if3 : tie.Need-mul-if3
-mul-if3 c = record { fits = rw (c .in-force .ensures) (omega (arith, in-force-small _ (c .before .if2 .left))) }
+mul-if3 c = record { fits = omega (arith, c .in-force .ensures, in-force-small _ (c .before .if2 .left), c .before .if2 .left) }
 
 returns-3 : tie.Need-returns-3
 returns-3 c =
     let allowed = c .before .before in
-    door-words _ _ _ _ (fits (allowed .before)) (allowed .if2 .left) (rw (c .before .in-force .ensures) at (c .if3 .taken))
+    door-words _ _ _ _ (fits (allowed .before)) (allowed .if2 .left) (omega (arith, c .before .in-force .ensures, c .if3 .taken))
 
 returns-4 : tie.Need-returns-4
 returns-4 c =
     let allowed = c .before .before in
-    door-open _ _ _ _ (fits (allowed .before)) (allowed .if2 .left) (rw (c .before .in-force .ensures) at (c .if3 .left))
+    door-open _ _ _ _ (fits (allowed .before)) (allowed .if2 .left) (omega (arith, c .before .in-force .ensures, c .if3 .left))
 
 pub door-fault-spec : {M : Type 1} → statement M
 door-fault-spec =

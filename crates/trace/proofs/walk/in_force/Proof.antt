@@ -1,4 +1,4 @@
--- `walk::in_force`: 0 stands for 64.
+-- `walk::in_force`: 0 stands for 128.
 -- Assumes nothing.
 use borrow.Author.Tests.{eq-eqb, ne-eqb}
 use Rattle.trace.specs.Frames.{inForce}
