@@ -2,19 +2,22 @@
 -- of the kinds that document 01 lists, each with a case on which it answers otherwise.
 -- Assumes nothing.
 use mathlib.Core.Path.{_≡_, refl, sym, _∙_, ap}
-use mathlib.Core.Bool.{true}
+use mathlib.Core.Bool.{true, false, not}
 use mathlib.Core.List.{List, [], _∷_, _++_}
-use Prim.Native.Nat.{ℕ, zero, suc, _-_, _^_}
+use Prim.Native.Nat.{ℕ, zero, suc, _-_, _*_, _^_}
 use native.Mathlib.Omega.{arith}
+use lib.Dec.{eqb, ltb}
 use lib.IntN.{pos}
 use lib.ListN.{length, getD, take, replicate}
+use Rattle.numbers.specs.computed.Address.{windowFits}
 use Rattle.numbers.specs.declared.field.Order.the-variants.{Little}
 use Rattle.section.specs.declared.row.Base.the-variants.{Sp}
 use Rattle.section.specs.declared.row.Place.the-variants.{Register}
 use Rattle.section.specs.declared.row.Row.{Row}
 use Rattle.section.specs.SectionS.{sectionS}
 use Rattle.section.specs.Shape.{aarch64Shape}
-use Rattle.accept.specs.computed.Checks.{verdict}
+use Rattle.accept.specs.computed.Checks.{firstBad, verdict}
+use Rattle.accept.specs.declared.verdict.Fault.{Fault}
 use Rattle.caller.specs.computed.Caller.{fromRow}
 use Rattle.caller.specs.declared.registers.Registers.{Registers}
 use Rattle.caller.specs.declared.registers.Step.{Step}
@@ -261,3 +264,51 @@ asRead caller = caller .lr
 as-read-differs : ¬ (walkBy asRead sealedStep 2 sealedLeaf ≡ walkOf sealedStep 2 sealedLeaf)
 unfolding traceOpened process sealed sealedLeaf sealedStep onwardBy walkBy asRead
 as-read-differs e = let z : _≡_ {A = ℕ} 26 30 = ap (λ w. endingNumber (w .ending)) e in omega arith
+
+-- ---- "Limit 0 should mean 128."
+
+-- the trace by how many frames 43 asks words for and how many the walk may have, and ours
+doorBy : (ℕ → ℕ) → List ℕ → Process → ℕ → ℕ → Fault
+doorBy asked window at limit words =
+    firstBad ((not (windowFits window (at .stack)), 41) ∷ (ltb 256 limit, 42) ∷ (ltb words (3 * asked limit), 43) ∷ [])
+
+limitedBy : (asked allowed : ℕ → ℕ) → List ℕ → List ℕ → ℕ → List ℕ → TraceReply
+limitedBy asked allowed s window limit old =
+    traced
+    (afterDoor (doorBy asked window (process 0) limit (length old))
+    (walkAfter (verdict s) (walkOf (stepAt s window (process 0)) (allowed limit) (withMark (registers 0 1)))))
+    old
+
+our-limit : (s window : List ℕ) (limit : ℕ) (old : List ℕ)
+    → traceOf s window (process 0) (registers 0 1) limit old ≡ limitedBy inForce inForce s window limit old
+unfolding traceOpened limitedBy doorBy
+our-limit s window limit old = refl
+
+-- as document 01 had it
+still64 : ℕ → ℕ
+still64 limit = elim (eqb limit 0) [ true ↦ 64 | false ↦ limit ]
+
+-- 192 words are taken for limit 0
+still-64-differs : ¬ (limitedBy still64 still64 [] stack 0 (replicate 192 7) ≡ limitedBy inForce inForce [] stack 0 (replicate 192 7))
+unfolding traceOpened stack process registers limitedBy doorBy still64
+still-64-differs e = let z : _≡_ {A = ℕ} 1 43 = ap (λ t. endingNumber (t .answer .ending)) e in omega arith
+
+-- 43 by the limit as given: limit 0 asks for no word
+as-given-differs : ¬ (limitedBy (λ limit. limit) inForce [] stack 0 [] ≡ limitedBy inForce inForce [] stack 0 [])
+unfolding traceOpened stack process registers limitedBy doorBy
+as-given-differs e = let z : _≡_ {A = ℕ} 1 43 = ap (λ t. endingNumber (t .answer .ending)) e in omega arith
+
+-- 128 for every limit: K11 has a second frame
+always-128-differs : ¬ (limitedBy inForce (λ limit. 128) sectionS stack 1 (replicate 6 7) ≡ limitedBy inForce inForce sectionS stack 1 (replicate 6 7))
+unfolding traceOpened sectionS stack process registers limitedBy doorBy
+always-128-differs e = let z : _≡_ {A = ℕ} 2 1 = ap (λ t. t .answer .frames) e in omega arith
+
+-- the walk of limit 0 ends after 64 frames still: a function that has called itself goes on
+callsItself : ℕ → List ℕ
+callsItself zero = []
+callsItself (suc calls) = 0x44 ∷ 0x10 ∷ 0x40 ∷ 0 ∷ 0 ∷ 0 ∷ 0 ∷ 0 ∷ callsItself calls
+
+walks-64-differs : ¬ (limitedBy inForce still64 sectionS (callsItself 66) 0 (replicate 384 7)
+    ≡ limitedBy inForce inForce sectionS (callsItself 66) 0 (replicate 384 7))
+unfolding traceOpened sectionS process registers limitedBy doorBy still64 callsItself
+walks-64-differs e = let z : _≡_ {A = ℕ} 64 66 = ap (λ t. t .answer .frames) e in omega arith
