@@ -2,7 +2,7 @@
 
 use std::fs;
 
-/// Whether the header defines a name so.
+/// Holds the header to define a name so.
 fn header_defines(name: &str, value: &str) {
     let header = concat!(env!("CARGO_MANIFEST_DIR"), "/../../include/suntimpani.h");
     let header = fs::read_to_string(header).expect("the header for C");

@@ -22,17 +22,17 @@ fn ground(machine: Machine) -> Ground {
     Ground::of_rows(machine, vec![from_sp(machine, 8, None)])
 }
 
-// A function that calls itself, 8 bytes a frame, so many frames deep.
-fn recursion(ground: &Ground, frames: usize, last: Last, limit: u64, words: usize) -> Expected {
+/// Frames of the stack, its last RA, the limit and the words.
+type Recursion = (usize, Last, u64, usize);
+
+// A function that calls itself, 8 bytes a frame.
+fn recursion(ground: &Ground, (frames, last, limit, words): Recursion) -> Expected {
     let mut stack = vec![pc_in(0); frames];
     if let (Outermost, Some(ra)) = (last, stack.last_mut()) {
         *ra = 0;
     }
     ground.walk_with(at(pc_in(0), 0x7000, 0xf0f0), ground.words(0x7000, &stack), limit, words)
 }
-
-/// Frames of the stack, its last RA, the limit and the words.
-type Recursion = (usize, Last, u64, usize);
 
 const SHORT: [Recursion; 44] = [
     // RA 0 in the last allowed frame, one frame before it, one behind it; no RA 0 at all.
@@ -86,7 +86,7 @@ const SHORT: [Recursion; 44] = [
 
 fn short(machine: Machine) -> Case {
     let ground = ground(machine);
-    let walks = SHORT.map(|(frames, last, limit, words)| recursion(&ground, frames, last, limit, words));
+    let walks = SHORT.map(|one| recursion(&ground, one));
     ground.case("limits", shared_out(machine, walks.into()))
 }
 
@@ -98,7 +98,7 @@ fn long(machine: Machine) -> Case {
         Machine::Aarch64 => &[(65, Outermost, 64, 193), (256, Outermost, 256, 769)],
         Machine::Aarch64Big => &[(64, Called, 64, 192)],
     };
-    let walks = traces.iter().map(|&(frames, last, limit, words)| recursion(&ground, frames, last, limit, words));
+    let walks = traces.iter().map(|&one| recursion(&ground, one));
     ground.case("long", walks.collect())
 }
 
@@ -106,24 +106,28 @@ fn long(machine: Machine) -> Case {
 pub fn usual() -> Vec<Case> {
     let of = |machine| {
         let ground = ground(machine);
-        let walks = around_the_usual(machine).map(|(frames, last, limit, words)| {
-            recursion(&ground, frames, last, limit, words) //
-        });
+        let walks = TOO_FEW_WORDS.into_iter().chain(around_the_usual(machine)).map(|one| recursion(&ground, one));
         ground.case("usual_limit", walks.collect())
     };
     Machine::ALL.map(of).into()
 }
 
-// What an older build lends, and a word too few, on every machine; of the long ones each has some.
-fn around_the_usual(machine: Machine) -> impl Iterator<Item = Recursion> {
-    let short =
-        [(129, Outermost, 0, 192), (127, Outermost, 0, 383), (128, Outermost, 0, 383), (129, Outermost, 0, 383)];
-    let long = match machine {
+// A word too few, and what an older build lends.
+const TOO_FEW_WORDS: [Recursion; 5] = [
+    (129, Outermost, 0, 192),
+    (127, Outermost, 0, 383),
+    (128, Outermost, 0, 383),
+    (129, Outermost, 0, 383),
+    (129, Outermost, 128, 383),
+];
+
+// Long ones again, of which each machine has some.
+fn around_the_usual(machine: Machine) -> [Recursion; 3] {
+    match machine {
         Machine::Amd64 => [(127, Outermost, 0, 384), (128, Outermost, 0, 384), (129, Outermost, 0, 384)],
         Machine::Aarch64 => [(127, Outermost, 0, 385), (128, Outermost, 0, 385), (129, Outermost, 0, 385)],
         Machine::Aarch64Big => [(127, Called, 0, 384), (128, Called, 0, 384), (129, Outermost, 128, 384)],
-    };
-    short.into_iter().chain([(129, Outermost, 128, 383)]).chain(long)
+    }
 }
 
 // 41 before 42 before 43, and all of them before the first step, which here is refused too: nothing covers the PC.
@@ -169,10 +173,10 @@ mod tests {
         assert_eq!(USUAL_FRAMES, 128);
         let ground = ground(Machine::Amd64);
         for (frames, words) in [(127, 384), (128, 384), (129, 385), (129, 383), (129, 192), (200, 768), (0, 0)] {
-            let [zero, usual] = [0, 128].map(|limit| recursion(&ground, frames, Outermost, limit, words).1);
+            let [zero, usual] = [0, 128].map(|limit| recursion(&ground, (frames, Outermost, limit, words)).1);
             assert_eq!(zero, usual, "{frames} frames, {words} words");
         }
-        let deep = recursion(&ground, 200, Outermost, 0, 768).1;
+        let deep = recursion(&ground, (200, Outermost, 0, 768)).1;
         assert_eq!((deep.traced, deep.kept()), (Traced { frames: 128, ending: Ending::Full }, 384));
     }
 }
