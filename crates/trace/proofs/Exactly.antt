@@ -4,7 +4,7 @@
 -- Assumes nothing.
 use mathlib.Core.Path.{_≡_, refl, sym, _∙_, ap, subst, fun-ext}
 use mathlib.Core.List.{List, [], _∷_}
-use mathlib.Core.Logic.{_↔_, ⊎-elim}
+use mathlib.Core.Logic.{_↔_, inr, ⊎-elim}
 use Prim.Native.Nat.{ℕ, suc, _+_, _*_, _≤_, _<_}
 use native.Mathlib.Omega.{arith}
 use lib.ListN.{length, getD, drop}
@@ -279,6 +279,15 @@ module _ (s stack : List ℕ) (process : Process) (registers : Registers) (limit
       let (none, opened, rule, is, given) = subst (Case s stack process registers limit old (walk .frames)) e some-case in
       writes-nothing λ h.
       accepted-or-refused (sym (accepted-exactly-when s .1 (h .1)) ∙ given-exactly-when s rule index .1 given)
+
+-- ---- "older builds lend 192 words and pass 0, and would now get 43"
+
+-- the whole reply to limit 0 with fewer than 384 words, in memory that there is and whatever is handed in beside them
+pub too-few-for-0 : (s stack : List ℕ) (process : Process) (registers : Registers) (old : List ℕ) → ¬ Rule41 stack process → length old < 384
+    → traceOf s stack process registers 0 old ≡ tracedAs (record { ending = Shut 43; frames = 0 }) old
+unfolding inForce over allWords numberOfTraceCause
+too-few-for-0 s stack process registers old fits few =
+    case-answers s stack process registers 0 old [] (Shut 43) (refl, inr (inr (refl, fits, (λ above. omega (arith, above)), few)))
 
 -- ---- a trace knows its section by its shape and by what a lookup finds at each PC, alone
 

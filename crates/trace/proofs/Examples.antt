@@ -1,5 +1,5 @@
 -- Traces of written-out stacks, each by computation: cases K10 to K12 of document 01, the numbers 41 to 43 and 1; and wrong traces,
--- of the kinds that document 01 lists, each with a case on which it answers otherwise.
+-- of the kinds that document 01 lists and by other rules for limit 0, each with a case on which it answers otherwise.
 -- Assumes nothing.
 use mathlib.Core.Path.{_≡_, refl, sym, _∙_, ap}
 use mathlib.Core.Bool.{true, false, not}
@@ -114,16 +114,6 @@ limit-0-fits : traceOf [] stack (process 0) (registers 0 0) 0 (replicate 384 7)
     ≡ tracedAs (record { ending = Unsound 1 0; frames = 0 }) (replicate 384 7)
 unfolding traceOpened stack process registers
 limit-0-fits = refl
-
--- "older builds lend 192 words and pass 0, and would now get 43", on any section; and who passes 64 lends enough
-older-build : (s : List ℕ) → traceOf s stack (process 0) (registers 0 0) 0 (replicate 192 7) ≡ shutWith 43 (replicate 192 7)
-unfolding traceOpened stack process registers shutWith
-older-build s = refl
-
-limit-64-fits : traceOf [] stack (process 0) (registers 0 0) 64 (replicate 192 7)
-    ≡ tracedAs (record { ending = Unsound 1 0; frames = 0 }) (replicate 192 7)
-unfolding traceOpened stack process registers
-limit-64-fits = refl
 
 -- ---- wrong traces
 
@@ -272,35 +262,45 @@ doorBy : (ℕ → ℕ) → List ℕ → Process → ℕ → ℕ → Fault
 doorBy asked window at limit words =
     firstBad ((not (windowFits window (at .stack)), 41) ∷ (ltb 256 limit, 42) ∷ (ltb words (3 * asked limit), 43) ∷ [])
 
-limitedBy : (asked allowed : ℕ → ℕ) → List ℕ → List ℕ → ℕ → List ℕ → TraceReply
-limitedBy asked allowed s window limit old =
+limitedBy : (asked allowed : ℕ → ℕ) → List ℕ → List ℕ → Process → Registers → ℕ → List ℕ → TraceReply
+limitedBy asked allowed s window at from limit old =
     traced
-    (afterDoor (doorBy asked window (process 0) limit (length old))
-    (walkAfter (verdict s) (walkOf (stepAt s window (process 0)) (allowed limit) (withMark (registers 0 1)))))
+    (afterDoor (doorBy asked window at limit (length old))
+    (walkAfter (verdict s) (walkOf (stepAt s window at) (allowed limit) (withMark from))))
     old
 
-our-limit : (s window : List ℕ) (limit : ℕ) (old : List ℕ)
-    → traceOf s window (process 0) (registers 0 1) limit old ≡ limitedBy inForce inForce s window limit old
+our-limit : (s window : List ℕ) (at : Process) (from : Registers) (limit : ℕ) (old : List ℕ)
+    → traceOf s window at from limit old ≡ limitedBy inForce inForce s window at from limit old
 unfolding traceOpened limitedBy doorBy
-our-limit s window limit old = refl
+our-limit s window at from limit old = refl
 
--- as document 01 had it
+-- "Limit 0 means 64", as document 01 had it
 still64 : ℕ → ℕ
 still64 limit = elim (eqb limit 0) [ true ↦ 64 | false ↦ limit ]
 
+-- "our own callers that relied on 64 must pass 64": who passes 64 gets, word for word, what 0 gave, whatever is handed in beside it
+as-0-was : (s window : List ℕ) (at : Process) (from : Registers) (old : List ℕ)
+    → traceOf s window at from 64 old ≡ limitedBy still64 still64 s window at from 0 old
+unfolding traceOpened limitedBy doorBy still64
+as-0-was s window at from old = refl
+
+-- the window and the registers of K10, and these limits
+limited : (asked allowed : ℕ → ℕ) → List ℕ → List ℕ → ℕ → List ℕ → TraceReply
+limited asked allowed s window limit old = limitedBy asked allowed s window (process 0) (registers 0 1) limit old
+
 -- 192 words are taken for limit 0
-still-64-differs : ¬ (limitedBy still64 still64 [] stack 0 (replicate 192 7) ≡ limitedBy inForce inForce [] stack 0 (replicate 192 7))
-unfolding traceOpened stack process registers limitedBy doorBy still64
+still-64-differs : ¬ (limited still64 still64 [] stack 0 (replicate 192 7) ≡ limited inForce inForce [] stack 0 (replicate 192 7))
+unfolding traceOpened stack process registers limitedBy limited doorBy still64
 still-64-differs e = let z : _≡_ {A = ℕ} 1 43 = ap (λ t. endingNumber (t .answer .ending)) e in omega arith
 
 -- 43 by the limit as given: limit 0 asks for no word
-as-given-differs : ¬ (limitedBy (λ limit. limit) inForce [] stack 0 [] ≡ limitedBy inForce inForce [] stack 0 [])
-unfolding traceOpened stack process registers limitedBy doorBy
+as-given-differs : ¬ (limited (λ limit. limit) inForce [] stack 0 [] ≡ limited inForce inForce [] stack 0 [])
+unfolding traceOpened stack process registers limitedBy limited doorBy
 as-given-differs e = let z : _≡_ {A = ℕ} 1 43 = ap (λ t. endingNumber (t .answer .ending)) e in omega arith
 
 -- 128 for every limit: K11 has a second frame
-always-128-differs : ¬ (limitedBy inForce (λ limit. 128) sectionS stack 1 (replicate 6 7) ≡ limitedBy inForce inForce sectionS stack 1 (replicate 6 7))
-unfolding traceOpened sectionS stack process registers limitedBy doorBy
+always-128-differs : ¬ (limited inForce (λ limit. 128) sectionS stack 1 (replicate 6 7) ≡ limited inForce inForce sectionS stack 1 (replicate 6 7))
+unfolding traceOpened sectionS stack process registers limitedBy limited doorBy
 always-128-differs e = let z : _≡_ {A = ℕ} 2 1 = ap (λ t. t .answer .frames) e in omega arith
 
 -- the walk of limit 0 ends after 64 frames still: a function that has called itself goes on
@@ -308,7 +308,7 @@ callsItself : ℕ → List ℕ
 callsItself zero = []
 callsItself (suc calls) = 0x44 ∷ 0x10 ∷ 0x40 ∷ 0 ∷ 0 ∷ 0 ∷ 0 ∷ 0 ∷ callsItself calls
 
-walks-64-differs : ¬ (limitedBy inForce still64 sectionS (callsItself 66) 0 (replicate 384 7)
-    ≡ limitedBy inForce inForce sectionS (callsItself 66) 0 (replicate 384 7))
-unfolding traceOpened sectionS process registers limitedBy doorBy still64 callsItself
+walks-64-differs : ¬ (limited inForce still64 sectionS (callsItself 66) 0 (replicate 384 7)
+    ≡ limited inForce inForce sectionS (callsItself 66) 0 (replicate 384 7))
+unfolding traceOpened sectionS process registers limitedBy limited doorBy still64 callsItself
 walks-64-differs e = let z : _≡_ {A = ℕ} 64 66 = ap (λ t. t .answer .frames) e in omega arith
