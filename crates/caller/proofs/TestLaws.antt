@@ -108,7 +108,7 @@ module _ (stack : List ℕ) (lies : ℕ) where
   inside-of : (n : ℕ) → Inside stack lies (pos n) → (lies ≤ n) × (n + 8 ≤ lies + length stack)
   inside-of n h = (leb→le lies n (h .0 .le), leb→le (n + 8) (lies + length stack) (h .1 .le))
 
-  of-inside : (n : ℕ) → lies ≤ n → n + 8 ≤ lies + length stack → Inside stack lies (pos n)
+  pub of-inside : (n : ℕ) → lies ≤ n → n + 8 ≤ lies + length stack → Inside stack lies (pos n)
   of-inside n from to = (leZ-yes (rw (le-leb lies n from) tt), leZ-yes (rw (le-leb (n + 8) (lies + length stack) to) tt))
 
   module _ (order : Order) where

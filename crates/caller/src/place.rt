@@ -55,7 +55,7 @@ pub fn is_lost(registers: Registers, ra: Spot) -> bool
 }
 
 // What stands at a place: the register's value, or the word of the stack.
-fn value_at(stack: &[u8], lies: u64, order: Order, register: u64, spot: Spot) -> Word
+pub fn value_at(stack: &[u8], lies: u64, order: Order, register: u64, spot: Spot) -> Word
     ensures { λ r. ⌜ r ≡ valueOf (now (stack .entry)) lies order register spot ⌝ }
 {
     match spot {

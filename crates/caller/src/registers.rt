@@ -72,7 +72,7 @@ pub fn asked_of(registers: Registers) -> Asked
     Asked::At(registers.pc)
 }
 
-fn base_value(registers: Registers, base: Base) -> u64
+pub fn base_value(registers: Registers, base: Base) -> u64
     ensures { λ r. ⌜ r ≡ baseValue registers base ⌝ }
 {
     match base {

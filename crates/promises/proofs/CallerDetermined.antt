@@ -5,6 +5,8 @@ use Rattle.caller.proofs.place.is_lost.Kinds as is_lost-kinds
 use Rattle.caller.proofs.place.is_lost.Reads as is_lost-reads
 use Rattle.caller.proofs.place.spot_of.Kinds as spot_of-kinds
 use Rattle.caller.proofs.place.spot_of.Reads as spot_of-reads
+use Rattle.caller.proofs.place.value_at.Kinds as value_at-kinds
+use Rattle.caller.proofs.place.value_at.Reads as value_at-reads
 use Rattle.caller.proofs.place.values_at.Kinds as values_at-kinds
 use Rattle.caller.proofs.place.values_at.Reads as values_at-reads
 use Rattle.caller.proofs.registers.Registers.from_row.Kinds as from_row-kinds
@@ -15,6 +17,8 @@ use Rattle.caller.proofs.registers.Registers.step_checked.Kinds as step_checked
 use Rattle.caller.proofs.registers.Registers.step_checked.Reads as step_checked-reads
 use Rattle.caller.proofs.registers.asked_of.Kinds as asked_of-kinds
 use Rattle.caller.proofs.registers.asked_of.Reads as asked_of-reads
+use Rattle.caller.proofs.registers.base_value.Kinds as base_value-kinds
+use Rattle.caller.proofs.registers.base_value.Reads as base_value-reads
 use Rattle.caller.proofs.registers.caller_sp.Kinds as caller_sp-kinds
 use Rattle.caller.proofs.registers.caller_sp.Reads as caller_sp-reads
 use Rattle.caller.proofs.registers.cfa_of.Kinds as cfa_of-kinds
@@ -37,11 +41,17 @@ spot_of-determined κs a z z′ w w′ p q = (p ∙ sym q, refl)
 pub is_lost-determined : Determined is_lost-kinds.ps is_lost-kinds.r is_lost-reads.Learnt
 is_lost-determined κs a z z′ w w′ p q = (p ∙ sym q, refl)
 
+pub value_at-determined : Determined value_at-kinds.ps value_at-kinds.r value_at-reads.Learnt
+value_at-determined κs a z z′ w w′ p q = (p ∙ sym q, refl)
+
 pub values_at-determined : Determined values_at-kinds.ps values_at-kinds.r values_at-reads.Learnt
 values_at-determined κs a z z′ w w′ p q = (p ∙ sym q, refl)
 
 pub asked_of-determined : Determined asked_of-kinds.ps asked_of-kinds.r asked_of-reads.Learnt
 asked_of-determined κs a z z′ w w′ p q = (p ∙ sym q, refl)
+
+pub base_value-determined : Determined base_value-kinds.ps base_value-kinds.r base_value-reads.Learnt
+base_value-determined κs a z z′ w w′ p q = (p ∙ sym q, refl)
 
 pub cfa_of-determined : Determined cfa_of-kinds.ps cfa_of-kinds.r cfa_of-reads.Learnt
 cfa_of-determined κs a z z′ w w′ p q = (p ∙ sym q, refl)

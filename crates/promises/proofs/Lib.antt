@@ -10,6 +10,8 @@ pub mod Demand1Met
 pub mod Demand2Met
 pub mod Demand3Met
 pub mod DigitsDetermined
+pub mod ExplainDetermined
+pub mod ExplainKept
 pub mod ExportedKept
 pub mod FunctionCallKept
 pub mod FunctionsOfS

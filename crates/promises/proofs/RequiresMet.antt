@@ -44,6 +44,10 @@ use Rattle.lookup.proofs.table.entry_in.Reads as entry_in-reads
 use Rattle.caller.specs.declared.registers.Registers.{Registers}
 use Rattle.caller.specs.declared.registers.Process.{Process}
 use Rattle.caller.proofs.registers.Registers.step_checked.Reads as step_checked-reads
+use Rattle.explain.specs.declared.nearby.Side.{Side}
+use Rattle.explain.proofs.coverers.all_covering.Reads as all_covering-reads
+use Rattle.explain.proofs.looked.explain_look.Reads as explain_look-reads
+use Rattle.explain.proofs.nearby.nearest_at.Reads as nearest_at-reads
 use Rattle.trace.specs.declared.answer.Frame.{Frame}
 use Rattle.trace.proofs.answer.write_frame.Reads as write_frame-reads
 use Rattle.promises.specs.inner.Lent.{Lies, lent}
@@ -212,6 +216,24 @@ pub step_checked-met :
     → step_checked-reads.Asked κs (registers, (lent here sectionS, (layoutOf sectionS, (lent there stack, (process, tt)))))
 unfolding lookupOpened sectionS
 step_checked-met κs here there registers stack process = record { accepted = refl; layout-is = refl }
+
+-- ---- explain: any address and PC, and either side of it
+
+pub explain_look-met :
+    (κs : Lfts 1) (here : Lies) (address pc : ℕ) → explain_look-reads.Asked κs (lent here sectionS, (layoutOf sectionS, (address, (pc, tt))))
+unfolding lookupOpened sectionS
+explain_look-met κs here address pc = record { accepted = refl; layout-is = refl }
+
+pub all_covering-met :
+    (κs : Lfts 1) (here : Lies) (address pc : ℕ) → all_covering-reads.Asked κs (lent here sectionS, (layoutOf sectionS, (address, (pc, tt))))
+unfolding lookupOpened sectionS
+all_covering-met κs here address pc = record { sound = refl; layout-is = refl }
+
+pub nearest_at-met :
+    (κs : Lfts 1) (here : Lies) (side : Side) (address pc : ℕ)
+    → nearest_at-reads.Asked κs (lent here sectionS, (layoutOf sectionS, (side, (address, (pc, tt)))))
+unfolding lookupOpened sectionS
+nearest_at-met κs here side address pc = record { sound = refl; layout-is = refl }
 
 -- ---- trace: a buffer of three words, and any frame
 

@@ -1,4 +1,4 @@
--- The code of each of the four public functions and of `function_at`, of the readers of rows and of lines, and of the eight exported functions,
+-- The code of each of the four public functions, of `function_at` and `ask`, of the two that explain, of the readers of rows and of lines, and of the eight exported functions,
 -- returns: it reads and writes only what is lent, and ends, with a reply that its contract allows.
 -- Assumes nothing.
 use mathlib.Core.Path.{refl}
@@ -14,6 +14,8 @@ use Rattle.listing.proofs.rows.row_turn as row_turn
 use Rattle.lookup.proofs.look.lookup as lookup
 use Rattle.ask.proofs.land.ask as ask
 use Rattle.caller.proofs.registers.Registers.step as step
+use Rattle.explain.proofs.looked.explain_lookup as explain_lookup
+use Rattle.explain.proofs.stepped.explain_step as explain_step
 use Rattle.trace.proofs.walk.trace as trace
 use Rattle.suntimpani.proofs.suntimpani_check as exported-check
 use Rattle.suntimpani.proofs.suntimpani_function_at as exported-function_at
@@ -48,6 +50,14 @@ step-returns = met-returns (step.Met.met 𝓤 H 𝓜 𝓖 𝓡)
 
 pub trace-returns : Returns trace.Kinds.ps trace.Kinds.r trace.Reads.Learnt trace.Symbol.routine
 trace-returns = met-returns (trace.Met.met 𝓤 H 𝓜 𝓖 𝓡)
+
+-- ---- why
+
+pub explain_lookup-returns : Returns explain_lookup.Kinds.ps explain_lookup.Kinds.r explain_lookup.Reads.Learnt explain_lookup.Symbol.routine
+explain_lookup-returns = met-returns (explain_lookup.Met.met 𝓤 H 𝓜 𝓖 𝓡)
+
+pub explain_step-returns : Returns explain_step.Kinds.ps explain_step.Kinds.r explain_step.Reads.Learnt explain_step.Symbol.routine
+explain_step-returns = met-returns (explain_step.Met.met 𝓤 H 𝓜 𝓖 𝓡)
 
 -- ---- the rows of a function one at a time, and a section as lines
 

@@ -6,6 +6,7 @@ pub mod Demand1
 pub mod Demand2
 pub mod Demand3
 pub mod Determined
+pub mod ExplainCall
 pub mod Exported
 pub mod FunctionCall
 pub mod ListingCall

@@ -1,0 +1,13 @@
+pub mod Between
+pub mod CoversLaws
+pub mod EachLaws
+pub mod FetchLaws
+pub mod GatherLaws
+pub mod Holds
+pub mod Implies
+pub mod KeyLaws
+pub mod NearestLaws
+pub mod PlaceLaws
+pub mod RowLaws
+pub mod SumLaws
+pub mod WholeLaws
