@@ -1,6 +1,7 @@
 pub mod Between
 pub mod CoversLaws
 pub mod EachLaws
+pub mod Examples
 pub mod FetchLaws
 pub mod GatherLaws
 pub mod Holds

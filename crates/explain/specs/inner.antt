@@ -1,2 +1,3 @@
 -- What only the code and its proofs speak of.
 pub mod Keys
+pub mod Opened

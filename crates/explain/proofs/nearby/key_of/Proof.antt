@@ -8,11 +8,11 @@ use Rattle.explain.proofs.nearby.key_of.Tie as tie
 
 returns : tie.Need-returns
 unfolding keyBy
-returns c = rw (eq-eqb _ _ (c .if1 .taken), keyBy)
+returns c = rw (eq-eqb (c .before .args .size) 0 (c .if1 .taken), keyBy)
 
 returns-2 : tie.Need-returns-2
 unfolding keyBy
-returns-2 c = rw (ne-eqb _ _ (c .before .if1 .left), keyBy) (c .side-key .ensures)
+returns-2 c = rw (ne-eqb (c .before .before .args .size) 0 (c .before .if1 .left), keyBy) (c .side-key .ensures)
 
 pub key-of-spec : {M : Type 1} → statement M
 key-of-spec = tie.close (tie.spec returns (λ c κs. search needs) returns-2)
