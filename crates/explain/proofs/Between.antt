@@ -3,7 +3,7 @@
 use mathlib.Core.List.{List}
 use Prim.Native.Nat.{ℕ}
 use lib.IntN.{ℤ}
-use lib.Signed.{_≤ℤ_, _<ℤ_, leZ}
+use lib.Signed.{_≤ℤ_, leZ}
 use Rattle.lookup.specs.Cases.{NoneCovers}
 use Rattle.lookup.proofs.CoveringLaws.{by-value, le-shows}
 use Rattle.explain.specs.Why.{NearestBelow, NearestAbove, Behind, Before, Between}

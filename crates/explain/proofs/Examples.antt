@@ -3,16 +3,14 @@
 use mathlib.Core.Path.{_≡_, refl}
 use mathlib.Core.Bool.{Bool, true, false}
 use mathlib.Core.List.{List, [], _∷_, map}
-use Prim.Native.Nat.{ℕ, _+_, _-_, _^_}
+use Prim.Native.Nat.{ℕ, _-_, _^_}
 use lib.IntN.{ℤ, pos, negsuc}
-use lib.ListN.{length, take, replicate, set}
+use lib.ListN.{take, replicate, set}
 use Rattle.numbers.specs.declared.field.Order.the-variants.{Little}
-use Rattle.numbers.specs.declared.offset.Offset.{Offset}
 use Rattle.section.specs.SectionS.{sectionS, overlappingS, unsortedS, atEntry, withFrame}
 use Rattle.section.specs.Shape.{aarch64Shape}
 use Rattle.section.specs.declared.row.Base.the-variants.{Sp}
-use Rattle.section.specs.declared.row.Place.{Place}
-use Rattle.section.specs.declared.row.Place.the-variants.{Register, AtOffset}
+use Rattle.section.specs.declared.row.Place.the-variants.{Register}
 use Rattle.section.specs.declared.row.Row.{Row}
 use Rattle.caller.specs.declared.registers.Process.{Process}
 use Rattle.caller.specs.declared.registers.Registers.{Registers}
@@ -23,7 +21,6 @@ use Rattle.explain.specs.computed.Sum.{sumOf}
 use Rattle.explain.specs.inner.Opened.{explainOpened}
 use Rattle.explain.specs.declared.sums.Sum.{Sum}
 use Rattle.explain.specs.declared.sums.Sum.the-variants.{At, Below, Above}
-use Rattle.explain.specs.declared.why.Coverers.{Coverers}
 use Rattle.explain.specs.declared.why.FoundRow.{FoundRow}
 use Rattle.explain.specs.declared.why.Looked.{Looked}
 use Rattle.explain.specs.declared.why.Looked.the-variants.{Found, NotFound}
@@ -31,7 +28,7 @@ use Rattle.explain.specs.declared.why.LookupReason.the-variants as looku
 use Rattle.explain.specs.declared.why.LookupWhy.{LookupWhy}
 use Rattle.explain.specs.declared.why.Nearest.{Nearest}
 use Rattle.explain.specs.declared.why.Nearest.the-variants.{Covered, Nothing}
-use Rattle.explain.specs.declared.why.Needed.the-variants.{Ra, Fp}
+use Rattle.explain.specs.declared.why.Needed.the-variants.{Ra}
 use Rattle.explain.specs.declared.why.NotFound.the-variants.{NoFunction, Dispute, NoRow}
 use Rattle.explain.specs.declared.why.RowReason.{RowReason}
 use Rattle.explain.specs.declared.why.RowReason.the-variants.{Caller, Signed, CfaOutside, CfaLow, RaLost, WordOutside}

@@ -1,17 +1,17 @@
 -- All functions that cover: trying function after function numbers them from 0 on, rising, and keeps the first sixteen.
 -- Assumes nothing.
-use mathlib.Core.Path.{_≡_, refl, sym, _∙_, ap}
+use mathlib.Core.Path.{_≡_, refl, sym, _∙_}
 use mathlib.Core.Bool.{Bool, true, false, true≢false}
 use mathlib.Core.List.{List}
-use mathlib.Core.Logic.{⊎-elim}
+use mathlib.Core.Logic.{_⊎_, inl, inr, ⊎-elim}
 use Prim.Native.Nat.{ℕ, suc, _+_, _≤_, _<_}
 use native.Mathlib.Nat.{eq-or-lt-of-le}
 use native.Mathlib.Omega.{arith}
 use lib.Dec.{ltb, eqb}
 use lib.IntN.{ℤ}
-use lib.ListN.{length, getD, set, replicate, length-set, length-replicate}
+use lib.ListN.{length, getD, set, length-set, length-replicate}
 use lib.Seq.{getD-set-same, getD-set-other}
-use borrow.Author.Tests.{lt-ltb, le-ltb, ltb-true, ltb-false, eq-eqb, ne-eqb}
+use borrow.Author.Tests.{lt-ltb, ltb-true, ltb-false, eq-eqb, ne-eqb}
 use Rattle.section.specs.Meaning.{functionIn}
 use Rattle.accept.specs.Rules.{functionCount}
 use Rattle.lookup.specs.Cases.{Covers}
@@ -147,3 +147,28 @@ all-covering s d =
       every = λ i here. all .every i (here .0) (cover-tests s d i here);
       shown = all .shown;
     }
+
+-- ---- what is told of them
+
+module _ (s : List ℕ) (d : ℤ) (coverers : Coverers) (all : AllCovering s d coverers) where
+  abbrev told : ℕ → ℕ
+  told k = getD (coverers .indexes) k 0
+
+  -- each covers
+  pub told-cover : (k : ℕ) → k < 16 → k < coverers .count → Covers s d (told k)
+  told-cover k small lt = rw (all .shown k small lt) (all .covers k lt)
+
+  -- they rise
+  pub told-rise : (j k : ℕ) → j < k → k < 16 → k < coverers .count → told j < told k
+  told-rise j k less small lt = rw (all .shown k small lt, all .shown j (omega arith) (omega arith)) (all .rises j k less lt)
+
+  -- every covering function is among them, or past the sixteenth
+  pub told-or-past : (i : ℕ) → Covers s d i
+      → ((k : ℕ) × (k < 16) × (k < coverers .count) × (told k ≡ i)) ⊎ ((16 < coverers .count) × (told 15 < i))
+  told-or-past i here =
+      let (k, lt, is) = all .every i here in
+      by-value (ltb k 16)
+      (λ e. let small : k < 16 = ltb-true k 16 e in inl (k, small, lt, all .shown k small lt ∙ is))
+      (λ e.
+      let late : 16 ≤ k = ltb-false k 16 e in
+      inr (omega arith, rw (all .shown 15 (omega arith) (omega arith), ← is) (all .rises 15 k (omega arith) lt)))

@@ -3,11 +3,11 @@
 use mathlib.Core.Path.{_≡_, refl, sym, _∙_, ap}
 use mathlib.Core.Bool.{true, false}
 use mathlib.Core.List.{List}
-use mathlib.Core.Logic.{inl, inr, ⊎-elim}
+use mathlib.Core.Logic.{⊎-elim}
 use Prim.Native.Nat.{ℕ, _+_, _^_, _≤_, _<_}
 use native.Mathlib.Omega.{arith}
 use lib.Dec.{ltb}
-use lib.IntN.{ℤ, pos, _+ℤ_}
+use lib.IntN.{ℤ}
 use lib.ListN.{length}
 use borrow.Author.Tests.{ltb-true, ltb-false}
 use Rattle.numbers.specs.Start.{distance}
@@ -18,13 +18,11 @@ use Rattle.section.specs.Meaning.{areaOf, shapeOf, entryIn, functionIn, functio
 use Rattle.section.specs.declared.row.Place.{Place}
 use Rattle.section.specs.declared.row.Place.the-variants.{AtOffset}
 use Rattle.section.specs.declared.row.Row.{Row}
-use Rattle.accept.specs.Rules.{Obeys, rowCount, rowStartAt}
+use Rattle.accept.specs.Rules.{rowCount, rowStartAt}
 use Rattle.accept.specs.computed.Checks.{verdict}
 use Rattle.accept.specs.declared.verdict.Verdict.{Verdict}
 use Rattle.accept.specs.declared.verdict.Verdict.the-variants as verdict
 use Rattle.accept.proofs.Exactly.{accepted-exactly-when, refused-by-a-rule}
-use Rattle.lookup.specs.Cases.{NoneCovers, LowestTwo, OffsetIs, FoundCase, NoRowCase}
-use Rattle.lookup.specs.Halving.{emptyFunction}
 use Rattle.lookup.specs.computed.Answers.{withRow, withCover, outcome}
 use Rattle.lookup.specs.computed.Covering.{covering, coverOf}
 use Rattle.lookup.specs.computed.Rows.{offsetWithin, rowFor}
@@ -47,7 +45,7 @@ use Rattle.caller.specs.declared.registers.Process.{Process}
 use Rattle.caller.specs.declared.registers.Registers.{Registers}
 use Rattle.caller.proofs.Asked.{asked-exactly-when, nowhere-exactly-when}
 use Rattle.caller.proofs.TestLaws.{fits-shows, maskless-shows, low-shows, lost-shows, in-memory, out-of-memory, memory-decided}
-use Rattle.explain.specs.Why.{StartIs, AboveOffset, WhyFound, WhyNoRow, NearestBelow, NearestAbove, AllCovering, WhyNotFound, WhyLooked, WhyUnsound, WhyReason, WhyLookup, WhySigned, WhyCfaOutside, WhyCfaLow, WhyRaLost, NeededAt, WhyWordOutside, WhyRow, WhyWindow, WhyAt, WhyNothingAsked, WhyStepReason, WhyStep}
+use Rattle.explain.specs.Why.{StartIs, AboveOffset, WhyFound, WhyNoRow, NearestBelow, NearestAbove, AllCovering, WhyLooked, WhyUnsound, WhyLookup, WhySigned, WhyCfaOutside, WhyCfaLow, WhyRaLost, NeededAt, WhyWordOutside, WhyRow, WhyWindow, WhyAt, WhyNothingAsked, WhyStepReason, WhyStep}
 use Rattle.explain.specs.computed.Coverers.{noCoverers, coverersIn}
 use Rattle.explain.specs.computed.Lookup.{startIn, byScan, inFunction, aloneWhy, noFunctionWhy, byCover, lookedOf, whyAfter, lookupWhy}
 use Rattle.explain.specs.computed.Nearest.{nearestIn}
@@ -349,3 +347,10 @@ module _ (s stack : List ℕ) (process : Process) (registers : Registers) where
           → WhyStep s stack process registers (checkedWhy s stack process registers v)
       by-verdict fits verdict.Accepted e = asked-holds fits e (askedOf registers) refl
       by-verdict fits (verdict.Refused number index) e = (fits, unsound-holds s number index e)
+
+-- ---- both: what an explanation says holds
+
+pub explained-holds :
+    ((s : List ℕ) (address pc : ℕ) → WhyLookup s address pc (lookupWhy s address pc))
+    × ((s stack : List ℕ) (process : Process) (registers : Registers) → WhyStep s stack process registers (stepWhy s stack process registers))
+explained-holds = (lookup-explained-holds, step-explained-holds)

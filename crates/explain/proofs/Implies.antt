@@ -1,30 +1,30 @@
 -- Why implies the answer, case by case: whoever sees that the numbers of an explanation are as it says knows what a lookup or a step
 -- answers. Of any explanation, whoever makes it.
 -- Assumes nothing.
-use mathlib.Core.Path.{_≡_, refl, sym, _∙_, ap}
+use mathlib.Core.Path.{_≡_, refl, sym, _∙_}
 use mathlib.Core.Bool.{Bool}
 use mathlib.Core.List.{List}
 use mathlib.Core.Logic.{_⊎_, inl, inr, ⊎-elim}
-use Prim.Native.Nat.{ℕ, zero, suc, _+_, _^_, _≤_, _<_}
+use Prim.Native.Nat.{ℕ, zero, suc, _≤_, _<_}
 use native.Mathlib.Nat.{eq-or-lt-of-le}
 use native.Mathlib.Omega.{arith}
-use lib.IntN.{ℤ, pos, _+ℤ_}
-use lib.ListN.{length, getD}
-use lib.Signed.{_≤ℤ_, _<ℤ_, ≤ℤ-refl}
+use lib.IntN.{ℤ}
+use lib.ListN.{getD}
+use lib.Signed.{_≤ℤ_, ≤ℤ-refl}
 use Rattle.numbers.specs.Start.{distance}
 use Rattle.numbers.specs.declared.offset.Offset.{Offset}
 use Rattle.section.specs.Meaning.{shapeOf}
 use Rattle.section.specs.declared.row.Place.{Place}
-use Rattle.section.specs.declared.row.Place.the-variants.{Register, AtOffset}
+use Rattle.section.specs.declared.row.Place.the-variants.{AtOffset}
 use Rattle.accept.specs.Rules.{Obeys}
 use Rattle.accept.proofs.Exactly.{accepted-exactly-when, given-exactly-when}
-use Rattle.lookup.specs.Cases.{NoneCovers, SomeTwoCover, LowestTwo, UnfoundCase}
-use Rattle.lookup.specs.Numbers.{Unfound, noFunction, dispute, noRow, numberOfUnfound}
+use Rattle.lookup.specs.Cases.{NoneCovers, LowestTwo}
+use Rattle.lookup.specs.Numbers.{noFunction, dispute, noRow}
 use Rattle.lookup.specs.computed.Answers.{lookupOf}
 use Rattle.lookup.specs.declared.answer.Outcome.the-variants as outcome
 use Rattle.lookup.proofs.Exactly as lookups
-use Rattle.caller.specs.Cases.{WindowFits, Outside, Rule24, CfaIs, Rule26, Rule27, LookedUp, RowFound, CfaAt, WordsAt}
-use Rattle.caller.specs.Frame.{baseValue, cfaOf, callerSp}
+use Rattle.caller.specs.Cases.{WindowFits, Outside, Rule24, CfaIs, LookedUp, RowFound, CfaAt, WordsAt}
+use Rattle.caller.specs.Frame.{cfaOf}
 use Rattle.caller.specs.Numbers.{unfound, signed, cfaOutside, cfaLow, raLost, wordOutside, numberOfRefusal, window, numberOfStepCause}
 use Rattle.caller.specs.computed.Caller.{stepIn}
 use Rattle.caller.specs.declared.registers.Process.{Process}
@@ -293,3 +293,12 @@ module _ (s stack : List ℕ) (process : Process) (registers : Registers) where
       → stepIn s stack process registers ≡ stepWhyAnswer registers why
   unfolding stepWhyAnswer
   step-explained-implies why h = step-reason-implies (why .coverers) (why .reason) h
+
+-- ---- both: what an explanation says implies the answer
+
+pub explained-implies :
+    ((s : List ℕ) (address pc : ℕ) (why : LookupWhy) → WhyLookup s address pc why → lookupOf s address pc .outcome ≡ outcomeWhy why)
+    × ((s stack : List ℕ) (process : Process) (registers : Registers) (why : StepWhy)
+    → WhyStep s stack process registers why
+    → stepIn s stack process registers ≡ stepWhyAnswer registers why)
+explained-implies = (lookup-explained-implies, step-explained-implies)

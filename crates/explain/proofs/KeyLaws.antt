@@ -1,12 +1,11 @@
 -- The keys of functions on one side of d: the largest is that of the nearest, which is what trying function after function finds.
 -- Assumes nothing.
 use mathlib.Core.Path.{_≡_, refl, sym, _∙_, ap}
-use mathlib.Core.Bool.{Bool, true, false, not, _&&_}
-use Prim.Native.Nat.{ℕ, zero, suc, _+_, _-_, _*_, _^_, _≤_, _<_, min}
+use mathlib.Core.Bool.{true, false, not, _&&_}
+use Prim.Native.Nat.{ℕ, _+_, _-_, _^_, _≤_, _<_, min}
 use native.Mathlib.Omega.{arith}
 use lib.Dec.{leb, ltb, eqb}
-use lib.IntN.{ℤ, pos, _+ℤ_, _-ℤ_}
-use lib.Signed.{leZ, ltZ}
+use lib.IntN.{ℤ, pos, _-ℤ_}
 use borrow.Author.Tests.{leb-true, leb-false, ltb-true, ltb-false, eqb-true, eqb-false, le-leb, lt-leb, lt-ltb, le-ltb, eq-eqb, ne-eqb}
 use Rattle.numbers.specs.inner.Held.{near, Held, Near}
 use Rattle.numbers.proofs.DiffLaws.{Diff, diff-pos, diff-add, diff-neg, diff-same, diff-less, diff-unique, diff-le, diff-lt}
@@ -19,7 +18,7 @@ use Rattle.explain.specs.declared.nearby.Side.{Side}
 use Rattle.explain.specs.declared.nearby.Side.the-variants.{Below, Above}
 use Rattle.explain.specs.declared.why.Nearest.{Nearest}
 use Rattle.explain.specs.declared.why.Nearest.the-variants.{Covered, Nothing}
-use Rattle.explain.proofs.WholeLaws.{Split, split}
+use Rattle.explain.proofs.WholeLaws.{split}
 
 pub near-small : (d : ℤ) → near d ≤ 2 ^ 34
 unfolding near

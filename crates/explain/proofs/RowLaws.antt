@@ -1,7 +1,6 @@
 -- What the start of one row tells of the others, in a section that obeys: starts rise, so that where one is above an offset, so are all
 -- behind it.
 -- Assumes nothing.
-use mathlib.Core.Path.{_≡_}
 use mathlib.Core.List.{List}
 use mathlib.Core.Logic.{⊎-elim}
 use Prim.Native.Nat.{ℕ, _+_, _≤_, _<_}
@@ -10,7 +9,7 @@ use native.Mathlib.Omega.{arith}
 use lib.IntN.{ℤ}
 use Rattle.accept.specs.Rules.{Obeys, functionCount, rowCount, rowStartAt}
 use Rattle.accept.proofs.AcceptedLaws.{rows-rising}
-use Rattle.lookup.specs.Cases.{LastAtMost, NoneAtMost, FoundCase, NoRowCase}
+use Rattle.lookup.specs.Cases.{FoundCase, NoRowCase}
 use Rattle.explain.specs.Why.{StartIs, AboveOffset, WhyFound, WhyNoRow}
 use Rattle.explain.specs.declared.why.FoundRow.{FoundRow}
 use Rattle.explain.specs.declared.why.RowStart.{RowStart}

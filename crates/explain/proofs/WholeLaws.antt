@@ -1,7 +1,7 @@
 -- The order of whole numbers, by the natural ones whose differences they are, so that `omega` finishes; and what it is to be nearer to a
 -- place on one side of it.
 -- Assumes nothing.
-use mathlib.Core.Path.{_≡_, sym, _∙_}
+use mathlib.Core.Path.{sym, _∙_}
 use Prim.Native.Nat.{ℕ, suc, _+_, _≤_, _<_}
 use native.Mathlib.Omega.{arith}
 use lib.IntN.{ℤ, pos, negsuc}

@@ -1,4 +1,4 @@
--- Why an answer was given (SPECIFICATION 11.2 to 11.12): what holds of a section, a PC, a stack window, a process and registers where this
+-- Why an answer was given (SPECIFICATION 11.2 to 11.9): what holds of a section, a PC, a stack window, a process and registers where this
 -- is the explanation, as plain propositions in the numbers that it hands out. Nothing here says how they are looked for. That they hold is
 -- `explained-holds`, and that they imply the answer `explained-implies`.
 use mathlib.Core.Path.{_≡_}
@@ -18,7 +18,7 @@ use Rattle.accept.specs.Given.{Rule, numberOfRule}
 use Rattle.accept.specs.Given as accept
 use Rattle.accept.specs.Rules.{Obeys, rowCount, rowStartAt}
 use Rattle.lookup.specs.Cases.{Covers, NoneCovers, OnlyCovers, OffsetIs, rowOfFunction}
-use Rattle.caller.specs.Cases.{WindowFits, ValueIs, Outside, NoMark, Rule24, CfaIs, Rule26, Rule27, Asks, AsksNothing}
+use Rattle.caller.specs.Cases.{WindowFits, ValueIs, Outside, Rule24, CfaIs, Rule26, Rule27, Asks, AsksNothing}
 use Rattle.caller.specs.Frame.{baseValue, callerSp}
 use Rattle.caller.specs.Signature.{maskOf, clear}
 use Rattle.caller.specs.declared.registers.Process.{Process}
@@ -78,8 +78,8 @@ pub record WhyNoRow (s : List ℕ) (d : ℤ) (function offset : ℕ) (first : Ro
 
 -- ---- functions
 
--- "For 21, in offsets from the section's first byte: the covered address nearest below PC ..with its function (lowest index on a tie), or
--- that there is none.": function i covers it, it is below d, no address behind it up to d is covered, and no lower index covers it
+-- "For 21, in offsets from the section's first byte: the covered address nearest below PC .. with its function (lowest index on a tie),
+-- or that there is none.": function i covers it, it is below d, no address behind it up to d is covered, and no lower index covers it
 abbrev pub NearestBelow : List ℕ → ℤ → Nearest → Type 0
 NearestBelow s d (Covered offset i) =
     Covers s (offset .by) i
@@ -112,6 +112,7 @@ Between below above z = Behind below z × Before above z
 
 -- "For 22: the indexes of all covering functions in rising order, up to 16, and how many there are in all.": the functions that cover
 -- can be numbered from 0 on, rising, each once, up to how many there are; and the indexes handed out are the first of these
+-- (`told-cover`, `told-rise`, `told-or-past`)
 pub record AllCovering (s : List ℕ) (d : ℤ) (coverers : Coverers) : Type 0 where
   pub nth : ℕ → ℕ
   pub covers : (k : ℕ) → k < coverers .count → Covers s d (nth k)

@@ -1,5 +1,5 @@
 -- What is promised of explanations holds of every calls that keep the contracts of our functions. Assumes nothing.
-use mathlib.Core.Path.{_≡_, refl, sym, ap, subst}
+use mathlib.Core.Path.{_≡_, refl, sym, subst}
 use mathlib.Core.List.{List, []}
 use Prim.Native.Nat.{ℕ}
 use Rattle.numbers.specs.declared.offset.Offset.{Offset}
@@ -7,7 +7,7 @@ use Rattle.lookup.specs.computed.Answers.{lookupOf}
 use Rattle.caller.specs.computed.Caller.{stepIn}
 use Rattle.caller.specs.declared.registers.Process.{Process}
 use Rattle.caller.specs.declared.registers.Registers.{Registers}
-use Rattle.explain.specs.Why.{WhyLookup, WhyStep, SumIs}
+use Rattle.explain.specs.Why.{WhyLookup, WhyStep}
 use Rattle.explain.specs.computed.Lookup.{lookupWhy}
 use Rattle.explain.specs.computed.Step.{stepWhy}
 use Rattle.explain.specs.computed.Sum.{sumOf}

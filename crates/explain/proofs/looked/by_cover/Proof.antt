@@ -1,7 +1,7 @@
 -- `looked::by_cover` goes by how many functions cover.
 -- Assumes nothing.
 use borrow.Author.Needs.{needs}
-use mathlib.Core.Path.{sym, _∙_, ap}
+use mathlib.Core.Path.{sym, _∙_}
 use Rattle.lookup.proofs.LookLaws.{accepted-header, row-asked}
 use Rattle.explain.specs.computed.Lookup.{byCover}
 use Rattle.explain.proofs.looked.by_cover.Statement.{statement}

@@ -1,7 +1,7 @@
 -- `looked::explain_lookup` explains a lookup where the section is accepted.
 -- Assumes nothing.
 use borrow.Author.Needs.{needs}
-use mathlib.Core.Path.{sym, _∙_, ap}
+use mathlib.Core.Path.{sym, _∙_}
 use Rattle.accept.proofs.AcceptedLaws.{accepted-laws}
 use Rattle.explain.specs.computed.Lookup.{whyAfter, lookupWhy}
 use Rattle.explain.proofs.looked.explain_lookup.Statement.{statement}

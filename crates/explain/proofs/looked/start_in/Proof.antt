@@ -2,13 +2,8 @@
 -- Assumes nothing.
 use borrow.Author.Needs.{needs}
 use native.Mathlib.Omega.{arith}
-use borrow.Author.Tests.{lt-ltb, le-ltb}
-use mathlib.Core.Path.{_≡_}
-use denote.Ref.{now}
-use Rattle.section.specs.Row.{rowPlace, rowStart}
-use Rattle.section.specs.inner.Reading.{Readable}
+use Rattle.section.specs.Row.{rowStart}
 use Rattle.accept.proofs.RowLaws.{entry-sound, entry-readable}
-use Rattle.explain.specs.computed.Lookup.{startIn}
 use Rattle.explain.proofs.PlaceLaws.{start-there, no-start}
 use Rattle.explain.proofs.looked.start_in.Statement.{statement}
 use Rattle.explain.proofs.looked.start_in.Tie as tie

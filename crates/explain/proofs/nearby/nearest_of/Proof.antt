@@ -1,6 +1,5 @@
 -- `nearby::nearest_of` tells a key from none.
 -- Assumes nothing.
-use mathlib.Core.Path.{ap}
 use native.Mathlib.Omega.{arith}
 use borrow.Author.Tests.{eq-eqb, ne-eqb}
 use Rattle.explain.specs.inner.Keys.{nearestOf}
