@@ -20,7 +20,7 @@ N = 1000000
 SEED =
 FROM =
 # What is timed: everything, or with TABLE=rows the finds in long functions alone, with TABLE=frames the frames of traces, with TABLE=ask
-# single addresses of sections that nobody checked.
+# single addresses of sections that nobody checked, with TABLE=why runs of sframe why.
 TABLE =
 
 help:
@@ -30,7 +30,7 @@ help:
 	@echo "make install  put the archive, its header and a pkg-config file below PREFIX ($(PREFIX))"
 	@echo "make pc       print that pkg-config file"
 	@echo "make soak     compare the library with the reader for longer: N=$(N) sections, SEED=.. to repeat a run"
-	@echo "make bench    the library's time against the reader's, and its use of the stack; TABLE=rows, TABLE=frames or TABLE=ask for a part"
+	@echo "make bench    the library's time against the reader's, and its use of the stack; TABLE=rows, TABLE=frames, TABLE=ask or TABLE=why for a part"
 	@echo "make cases    make the stored cases and their expected output anew, by the independent reader"
 	@echo "make reader   the independent reader by itself: its own tests, and the public dumps"
 	@echo "make fmt      lay every source and proof file out"
@@ -65,6 +65,7 @@ bench: lib
 	@$(call for_tests,measure)
 	@said=$$(rt staticlib measure_lines 2>&1) || { echo "$$said"; exit 1; }
 	@$(call for_tests,measure_lines)
+	@said=$$(rt check sframe 2>&1) || { echo "$$said"; exit 1; }
 	cd tests && cargo run --quiet --release --offline --locked --features library,measure --bin bench -- $(TABLE)
 
 cases:

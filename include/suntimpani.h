@@ -147,7 +147,7 @@
 #include <stdint.h>
 
 /* The version of this header and of the archive beside it. */
-#define SUNTIMPANI_VERSION "0.5.0"
+#define SUNTIMPANI_VERSION "0.5.1"
 
 /* How many frames a trace may have whose limit is 0. Who passes this name in place of 0, and has the size of the buffer
  * from it, lends enough whatever 0 means in the archive. */

@@ -36,12 +36,14 @@ mod starts;
 mod step_order;
 mod twins;
 pub(crate) mod walks;
+mod whys;
 mod windows;
 
 pub use corpus::{corpus_section, CORPUS, CORPUS_VERDICTS};
 pub use document::S;
 pub use questions::Question;
 pub use recorded::{LAST_CALL_RUNS, SIGNED_SECTIONS};
+pub use whys::{whys, Why};
 
 use crate::maker::{Function, Machine, Row, Section, SORTED};
 use crate::reader::{Asked, Header, Verdict};

@@ -6,8 +6,8 @@
 //! is the fixed list of named sections, questions and walks, `pack` the form in which they are stored, `large` the
 //! sections too big to store, `stream` an endless seeded source of more. `comparison` holds the proved library, called
 //! by `library`, against the reader, all memory being `guarded`. `measured`, `timing`, `painted` and `libsframe` measure
-//! both. `words` is what the program `sframe` prints, and `program` runs it. `dump` is what other tools printed of a
-//! section.
+//! both. `words` is what the program `sframe` prints and `reasons` what the program of that name does, and `program`
+//! runs them; `shown` is what is stored of the first. `dump` is what other tools printed of a section.
 #![deny(unsafe_code)]
 
 pub mod cases;
@@ -32,6 +32,8 @@ pub mod pack;
 pub mod painted;
 pub mod program;
 pub mod reader;
+pub mod reasons;
+pub mod shown;
 pub mod stream;
 pub mod timing;
 pub mod walk;

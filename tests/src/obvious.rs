@@ -1,14 +1,17 @@
 //! Lookups straight from the definition, slowly: every function that covers a PC is listed, every row of it is tried.
-//! `walk` makes steps and traces by them, and `ask` asks one address of a section that is not checked.
+//! `walk` makes steps and traces by them, `ask` asks one address of a section that is not checked, and `explain` says
+//! why an answer is given.
 //!
 //! The reader is held against it. It works on functions as values, so that they can come from a section's
 //! bytes, by the reader, or from the description that a section was built from, past the reader altogether.
 #![forbid(unsafe_code)]
 
 mod ask;
+mod explain;
 mod walk;
 
 pub use ask::ask;
+pub use explain::{explain_lookup, explain_step};
 pub use walk::{step, trace, Meaning};
 
 use crate::maker;

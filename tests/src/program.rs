@@ -1,4 +1,5 @@
-//! The program `sframe`, run as people run it: in a folder of its own, and what it says to both of its outputs.
+//! The program `sframe`, run as people run it: in a folder of its own, and what it says to both of its outputs; and how
+//! a program is started.
 #![forbid(unsafe_code)]
 
 use crate::in_repository;
@@ -33,9 +34,7 @@ impl Folder {
     /// # Panics
     /// Where the program does not start, or does not come to its end.
     pub fn run(&self, arguments: &[&str]) -> (String, String) {
-        let run = program().args(arguments).current_dir(&self.0).output().expect("the program starts");
-        assert!(run.status.code().is_some(), "{arguments:?}: {}", run.status);
-        (text(run.stdout), text(run.stderr))
+        run_in(&self.0, arguments)
     }
 
     /// # Panics
@@ -86,15 +85,28 @@ pub fn on_two_threads<T: Sync>(test: &str, items: &[T], try_one: impl Fn(&Folder
     });
 }
 
-/// The program, which is compiled for x86-64; elsewhere it is started under an emulator.
-fn program() -> Command {
-    let program = in_repository("target/bin/sframe");
-    assert!(program.is_file(), "target/bin/sframe is not there: run 'rt check sframe'");
+/// The standard output and standard error of `sframe` in a folder.
+///
+/// # Panics
+/// Where the program does not start, or does not come to its end.
+pub fn run_in(folder: &Path, arguments: &[&str]) -> (String, String) {
+    let run = program("sframe").args(arguments).current_dir(folder).output().expect("the program starts");
+    assert!(run.status.code().is_some(), "{arguments:?}: {}", run.status);
+    (text(run.stdout), text(run.stderr))
+}
+
+/// A program of target/bin, which is compiled for x86-64; elsewhere it is started under an emulator.
+///
+/// # Panics
+/// Where the program is not there.
+pub fn program(name: &str) -> Command {
+    let program = in_repository("target/bin").join(name);
+    assert!(program.is_file(), "target/bin/{name} is not there: run 'rt check {name}'");
     if cfg!(target_arch = "x86_64") {
         return Command::new(program);
     }
     let mut launcher = Command::new(in_repository("tests/run_program"));
-    launcher.arg("sframe");
+    launcher.arg(name);
     launcher
 }
 

@@ -1,6 +1,6 @@
 //! The independent reader: the section checks, the meaning of an accepted section, lookups in it, steps and traces by
-//! it, its listing, and one address asked of a section that is not checked. It is written from document 01 alone, the
-//! last two from the words in which they were asked for.
+//! it, its listing, one address asked of a section that is not checked, and why an answer is given. It is written from
+//! document 01 alone, the last three from the words in which they were asked for.
 //!
 //! It is what the proved crates are compared with, so it shares nothing with them. Every sum is of i64 or u64 and exact:
 //! a start is an i32 plus a position below 2^24 + 1, a size is below 2^32, and row counts add up to less than 2^52.
@@ -9,6 +9,7 @@
 mod ask;
 mod caller;
 mod decoding;
+mod explain;
 mod listing;
 mod lookup;
 mod named;
@@ -17,6 +18,9 @@ mod trace;
 
 pub use ask::{ask, Asked, AskedOutcome};
 pub use caller::{step, Process, Registers, Step};
+pub use explain::{
+    explain_lookup, explain_step, FoundRow, LookupWhy, Near, SavedWord, StepWhy, Sum, Then, Unfound, MOST_COVERING,
+};
 pub use listing::{function_at, listing, FunctionAt, Line};
 pub use lookup::{lookup, Answer, Checked, Outcome};
 pub use named::named_bytes;

@@ -1,5 +1,6 @@
 //! An endless source of sections, sound and damaged, the same for the same seed, and of what is asked of them:
-//! functions by their indexes, rows, lookups and walks; and of smaller ones, which are asked single addresses.
+//! functions by their indexes, rows, lookups and walks; and of smaller ones, which are asked single addresses, or of
+//! which answers are explained.
 //!
 //! A section begins as a random sound description. Most are then damaged: a field of the description, bytes of what
 //! was built from it, or its length. Damage likes the edges: one below, exactly at, one above.
@@ -11,6 +12,7 @@ mod lookups;
 mod places;
 mod turns;
 mod walks;
+mod whys;
 
 pub use asked::{to_ask, ToAsk, ASKED_OF_A_TURN};
 pub use indexes::indexes;
@@ -18,6 +20,7 @@ pub use lookups::questions;
 pub use places::places;
 pub use turns::{turn, Turn};
 pub use walks::{walkable, walks};
+pub use whys::record;
 
 use crate::maker::{FirstRow, Function, Machine, Row, Section, Start, RELATIVE, SORTED};
 

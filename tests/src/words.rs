@@ -2,8 +2,10 @@
 #![forbid(unsafe_code)]
 
 mod listing;
+mod why;
 
 pub use listing::{listing, listing_of};
+pub use why::{why_lookup, why_step};
 
 use crate::reader::USUAL_FRAMES;
 use crate::reader::{Answer, Asked, AskedOutcome, Base, Ending, Header, Outcome, Place, Registers, Row, Step, Verdict};
@@ -15,17 +17,23 @@ pub const MOST_SECTION_BYTES: usize = 6_291_456;
 /// The most bytes of a stack window that the program reads.
 pub const MOST_STACK_BYTES: usize = 1_048_576;
 
-/// Each command, and what it takes; what stands in brackets may be left out.
-pub const COMMANDS: [(&str, &str); 8] = [
+/// Each command, and what it takes, in one form or another; what stands in brackets may be left out.
+pub const COMMANDS: [(&str, &str); 9] = [
     ("check", "FILE"),
     ("list", "FILE [INDEX]"),
     ("lookup", "FILE ADDRESS PC"),
     ("ask", "FILE ADDRESS PC"),
+    ("why", "FILE ADDRESS PC, or FILE ADDRESS STACK STACK_ADDRESS PC SP FP LR FIRST MASK"),
     ("caller", "FILE ADDRESS STACK STACK_ADDRESS PC SP FP LR FIRST [MASK]"),
     ("trace", "FILE ADDRESS STACK STACK_ADDRESS PC SP FP LR LIMIT [MASK]"),
     ("help", ""),
     ("version", ""),
 ];
+
+/// The forms of what a command takes.
+pub fn forms(takes: &str) -> impl Iterator<Item = &str> {
+    takes.split(", or ")
+}
 
 /// The arguments that are counts: they are decimal, and all other numbers hexadecimal.
 pub const DECIMAL: [&str; 2] = ["INDEX", "LIMIT"];
@@ -108,7 +116,8 @@ fn abi(abi: u8) -> &'static str {
     }
 }
 
-fn counted(count: u32, what: &str) -> String {
+fn counted(count: impl Into<u64>, what: &str) -> String {
+    let count = count.into();
     let ending = if count == 1 { "" } else { "s" };
     format!("{count} {what}{ending}")
 }
@@ -141,21 +150,31 @@ pub fn asked(asked: &Asked) -> String {
 }
 
 fn found(function: u64, number: u64, row: &Row) -> String {
+    let mark = if row.signed { "RA is signed\n" } else { "" };
+    let place = format!("function {function}, row {number}, which starts at {}", row.start);
+    format!("found: {place}\n{}\n{}\n{mark}{}\n", cfa_of(row), ra_of(row), fp_of(row))
+}
+
+fn cfa_of(row: &Row) -> String {
     let base = match row.base {
         Base::Fp => "FP",
         Base::Sp => "SP",
     };
-    let ra = match row.ra {
+    format!("CFA is {base} {}", signed(row.cfa_offset))
+}
+
+fn ra_of(row: &Row) -> String {
+    match row.ra {
         Place::Register => "RA is in LR".to_string(),
         Place::AtOffset(offset) => format!("RA is at CFA {}", signed(offset)),
-    };
-    let fp = match row.fp {
+    }
+}
+
+fn fp_of(row: &Row) -> String {
+    match row.fp {
         Place::Register => "FP is unchanged".to_string(),
         Place::AtOffset(offset) => format!("FP is at CFA {}", signed(offset)),
-    };
-    let mark = if row.signed { "RA is signed\n" } else { "" };
-    let place = format!("function {function}, row {number}, which starts at {}", row.start);
-    format!("found: {place}\nCFA is {base} {}\n{ra}\n{mark}{fp}\n", signed(row.cfa_offset))
+    }
 }
 
 fn signed(offset: i64) -> String {
@@ -354,6 +373,7 @@ mod tests {
         assert_eq!(wrong::count("ask"), "sframe: 'ask' takes FILE ADDRESS PC\n");
         assert_eq!(wrong::count("help"), "sframe: 'help' takes no arguments\n");
         let walk = "FILE ADDRESS STACK STACK_ADDRESS PC SP FP LR";
+        assert_eq!(wrong::count("why"), format!("sframe: 'why' takes FILE ADDRESS PC, or {walk} FIRST MASK\n"));
         assert_eq!(wrong::count("caller"), format!("sframe: 'caller' takes {walk} FIRST [MASK]\n"));
         assert_eq!(wrong::count("trace"), format!("sframe: 'trace' takes {walk} LIMIT [MASK]\n"));
         let address = "sframe: ADDRESS is not a hexadecimal number of 1 to 16 digits: 'xyz'\n";

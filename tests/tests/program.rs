@@ -3,13 +3,14 @@
 
 use std::collections::BTreeSet;
 use std::fs;
+use std::ops::RangeInclusive;
 use std::process::Command;
 use suntimpani_tests::cases::{self, corpus_section, Case, CORPUS_VERDICTS, S};
 use suntimpani_tests::maker::{Function, Machine, Row, Section};
 use suntimpani_tests::program::{counted, text, Folder};
 use suntimpani_tests::reader::{self, Base, Outcome, Place, Verdict, USUAL_FRAMES};
 use suntimpani_tests::walk::Walk;
-use suntimpani_tests::words::{self, wrong, COMMANDS, DECIMAL, MOST_SECTION_BYTES, MOST_STACK_BYTES};
+use suntimpani_tests::words::{self, forms, wrong, COMMANDS, DECIMAL, MOST_SECTION_BYTES, MOST_STACK_BYTES};
 use suntimpani_tests::{in_repository, ADDRESS};
 
 // Numbers are given in each of their forms, by turns.
@@ -355,6 +356,7 @@ fn a_section_is_read_up_to_its_most_bytes() {
     folder.refuses(&["list", "section"], &too_long);
     folder.refuses(&["lookup", "section", "0", "0"], &too_long);
     folder.refuses(&["ask", "section", "0", "0"], &too_long);
+    folder.refuses(&["why", "section", "0", "0"], &too_long);
 }
 
 // K10 at the very end of a window of the most bytes.
@@ -387,13 +389,24 @@ fn a_wrong_command_is_told() {
 fn a_wrong_count_is_told() {
     let folder = Folder::of("counts");
     for (command, takes) in COMMANDS {
-        let most = takes.split_whitespace().count();
-        let fewest = most - takes.matches('[').count();
+        let taken: Vec<RangeInclusive<usize>> = forms(takes).map(counts_of).collect();
         // Nothing of them is looked at: neither is a file, nor a number.
         let refuses = |count| folder.refuses(&[&[command][..], &vec!["?"; count]].concat(), &wrong::count(command));
-        let others = [0, fewest.saturating_sub(1), most + 1, 20];
-        others.into_iter().filter(|count| !(fewest..=most).contains(count)).for_each(refuses);
+        let beside = taken.iter().flat_map(|counts| [counts.start().saturating_sub(1), counts.end() + 1]);
+        let others = beside.chain([0, 20]).filter(|count| !taken.iter().any(|counts| counts.contains(count)));
+        others.for_each(refuses);
     }
+}
+
+// Each command with each form of what it takes.
+fn every_form() -> impl Iterator<Item = (&'static str, &'static str)> {
+    COMMANDS.into_iter().flat_map(|(command, takes)| forms(takes).map(move |form| (command, form)))
+}
+
+// How many arguments a form has, with what may be left out and without.
+fn counts_of(form: &str) -> RangeInclusive<usize> {
+    let most = form.split_whitespace().count();
+    most - form.matches('[').count()..=most
 }
 
 const NO_HEXADECIMAL: [&str; 9] =
@@ -409,8 +422,8 @@ fn a_wrong_number_is_told() {
     let folder = Folder::of("numbers");
     folder.put("FILE", &S);
     folder.put("STACK", &[0; 8]);
-    for (command, takes) in COMMANDS {
-        let names: Vec<&str> = takes.split(' ').map(|name| name.trim_matches(['[', ']'])).collect();
+    for (command, form) in every_form() {
+        let names: Vec<&str> = form.split(' ').map(|name| name.trim_matches(['[', ']'])).collect();
         let numbers = (0..names.len()).filter(|&place| !["FILE", "STACK", ""].contains(&names[place]));
         numbers.for_each(|place| wrong_numbers_at(&folder, command, &names, place));
     }
@@ -437,6 +450,9 @@ fn a_wrong_file_is_told() {
         folder.refuses(&["list", file, "0"], &said);
         folder.refuses(&["lookup", file, "0", "0"], &said);
         folder.refuses(&["ask", file, "0", "0"], &said);
+        folder.refuses(&["why", file, "0", "0"], &said);
+        folder.refuses(&with_mask(walk_of("why", file, "S")), &said);
+        folder.refuses(&with_mask(walk_of("why", "S", file)), &said);
         folder.refuses(&walk_of("caller", file, "S"), &said);
         folder.refuses(&walk_of("caller", "S", file), &said);
         folder.refuses(&walk_of("trace", file, "S"), &said);
@@ -452,10 +468,15 @@ fn a_stack_of_too_many_bytes_is_told() {
     let said = wrong::too_long("long", MOST_STACK_BYTES);
     folder.refuses(&walk_of("caller", "S", "long"), &said);
     folder.refuses(&walk_of("trace", "S", "long"), &said);
+    folder.refuses(&with_mask(walk_of("why", "S", "long")), &said);
 }
 
 fn walk_of<'a>(command: &'a str, section: &'a str, stack: &'a str) -> [&'a str; 10] {
     [command, section, "0", stack, "0", "0", "0", "0", "0", "0"]
+}
+
+fn with_mask(walk: [&str; 10]) -> Vec<&str> {
+    [&walk[..], &["0"]].concat()
 }
 
 // Of several wrong arguments the leftmost is told, behind the count of them all.
@@ -469,6 +490,11 @@ fn the_leftmost_wrong_argument_is_told() {
     folder.refuses(&["lookup", "S", "xyz", "zzz"], &wrong::number("ADDRESS", "xyz"));
     folder.refuses(&["ask", "nofile", "xyz", "zzz"], &wrong::missing("nofile"));
     folder.refuses(&["ask", "S", "xyz", "zzz"], &wrong::number("ADDRESS", "xyz"));
+    folder.refuses(&["why", "nofile", "xyz"], &wrong::count("why"));
+    folder.refuses(&["why", "nofile", "xyz", "zzz"], &wrong::missing("nofile"));
+    folder.refuses(&["why", "S", "xyz", "zzz"], &wrong::number("ADDRESS", "xyz"));
+    folder.refuses(&["why", "S", "0", "nofile", "", "", "", "", "", "", ""], &wrong::missing("nofile"));
+    folder.refuses(&["why", "S", "0", "S", "0", "0", "0", "0", "0", "0", "t"], &wrong::number("MASK", "t"));
     folder.refuses(&["trace", "S", "xyz", "nofile", "", "", "", "", "", ""], &wrong::number("ADDRESS", "xyz"));
     folder.refuses(&["trace", "S", "0", "nofile", "", "", "", "", "", ""], &wrong::missing("nofile"));
     folder.refuses(&["caller", "S", "0", "S", "0", "0", "0", "q", "r", "s"], &wrong::number("FP", "q"));
@@ -483,8 +509,8 @@ fn help_lists_every_command() {
     let folder = Folder::of("help");
     let (out, err) = folder.run(&["help"]);
     assert_eq!(err, "");
-    for (command, takes) in COMMANDS {
-        let form = format!("sframe {command} {takes}");
+    for (command, form) in every_form() {
+        let form = format!("sframe {command} {form}");
         assert!(out.lines().any(|line| line.trim() == form.trim() || line.contains(&form)), "{form}\n{out}");
     }
     let told_of_counts = out.replace("hexadecimal", "").contains("decimal");
@@ -494,10 +520,14 @@ fn help_lists_every_command() {
     assert_eq!(said.nth(1), Some(OF_THE_MASK), "{out}");
     let lines: Vec<&str> = out.lines().skip_while(|line| !line.starts_with("sframe lookup ")).collect();
     assert_eq!(lines[2..4], ["sframe ask FILE ADDRESS PC", OF_ASKING], "{out}");
+    let of_a_step = "sframe why FILE ADDRESS STACK STACK_ADDRESS PC SP FP LR FIRST MASK";
+    assert_eq!(lines[4..7], ["sframe why FILE ADDRESS PC", of_a_step, OF_WHY], "{out}");
     assert!(out.lines().any(|line| line.contains(&format!("up to 256, and 0 stands for {USUAL_FRAMES}."))), "{out}");
 }
 
 const OF_ASKING: &str = "    the same without a check of the whole section: only what the answer needs is read";
+
+const OF_WHY: &str = "    why a lookup or a caller comes to its answer, in numbers that can be checked by hand";
 
 const OF_THE_MASK: &str = concat!(
     "MASK has the bits of a signature, which are cleared from a signed RA (AArch64); ",

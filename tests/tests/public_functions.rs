@@ -241,14 +241,16 @@ fn says_returns(proofs: &Proofs, function: &Function, theorem: &str) -> bool {
         && proofs.uses(&format!("use {} as {of}", function.cited))
 }
 
-/// The calls that people make: those that are exported, and the readers of rows and lines.
-const CALLS: [&str; 13] = [
+/// The calls that people make: those that are exported, those that say why, and the readers of rows and lines.
+const CALLS: [&str; 15] = [
     "check",
     "function_at",
     "lookup",
     "ask",
     "step",
     "trace",
+    "explain_lookup",
+    "explain_step",
     "place_of",
     "row_turn",
     "reader_of",

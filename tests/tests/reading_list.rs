@@ -1,7 +1,7 @@
 //! docs/PROMISES.md begins with the lists of the definitions that must be believed: one for the three demands, one for the
-//! listing, one for the rows that are passed, one for signed return addresses, and one for an asked address. Each must be
-//! closed: what a file of it uses of ours stands on it, further up, or on a list before it; and each file has as many lines
-//! as the list says, and all have what the page says.
+//! listing, one for the rows that are passed, one for signed return addresses, one for an asked address, and one for why.
+//! Each must be closed: what a file of it uses of ours stands on it, further up, or on a list before it; and each file has
+//! as many lines as the list says, and all have what the page says.
 
 use std::fs;
 use suntimpani_tests::in_repository;
@@ -31,6 +31,9 @@ const OURS_TO_ASK: [&str; 6] = [
     "crates/suntimpani/specs/Flat.antt",
     "crates/suntimpani/specs/Read.antt",
 ];
+
+/// What the files of the sixth list use to say what our contracts allow. The page names them.
+const OURS_TO_EXPLAIN: [&str; 2] = ["crates/promises/specs/Contracts.antt", "crates/promises/specs/Determined.antt"];
 
 /// A row of a list: a file and its lines.
 #[derive(Debug, PartialEq)]
@@ -103,7 +106,7 @@ fn the_lists_are_closed_and_as_long_as_they_say() {
     let page = fs::read_to_string(in_repository("docs/PROMISES.md")).expect("the page");
     let text_of =
         |file: &str| fs::read_to_string(in_repository(file)).unwrap_or_else(|error| panic!("{file}: {error}"));
-    let [demands, listing, passed, signed, asked] = parts(&page)[..] else {
+    let [demands, listing, passed, signed, asked, why] = parts(&page)[..] else {
         panic!("the page has {} lists", parts(&page).len())
     };
     let first = listed_in(demands);
@@ -112,12 +115,14 @@ fn the_lists_are_closed_and_as_long_as_they_say() {
     assert_eq!(faults(&first, &listed_in(passed), &[CONTRACTS], text_of), [""; 0]);
     assert_eq!(faults(&first, &listed_in(signed), &[CONTRACTS], text_of), [""; 0]);
     assert_eq!(faults(&first, &listed_in(asked), &OURS_TO_ASK, text_of), [""; 0]);
+    assert_eq!(faults(&first, &listed_in(why), &OURS_TO_EXPLAIN, text_of), [""; 0]);
     hold(demands, &["Demand1", "Demand2", "Demand3"]);
     hold(listing, &["FunctionCall", "ListingCall", "RowsCall"]);
     hold(passed, &["PassedRows"]);
     hold(signed, &["SignedAddresses"]);
     hold(asked, &["AskCall"]);
-    let unread = OURS.iter().chain([&CONTRACTS]).chain(&OURS_TO_ASK);
+    hold(why, &["ExplainCall"]);
+    let unread = OURS.iter().chain([&CONTRACTS]).chain(&OURS_TO_ASK).chain(&OURS_TO_EXPLAIN);
     assert_eq!(unread.filter(|file| !page.contains(**file)).count(), 0, "the page names what is ours");
 }
 

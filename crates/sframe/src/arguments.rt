@@ -76,6 +76,26 @@ pub fn count_given(i: usize, name: &[u8]) -> Parsed {
     given_at(i, name, false)
 }
 
+// An address of the section and a PC, or that one of them is wrong.
+pub enum Given {
+    At { address: u64, pc: u64 },
+    Wrong,
+}
+
+// Arguments 3 and 4, of a lookup in any form.
+pub fn address_and_pc_given() -> Given {
+    let Parsed::Number(address) = number_given(3, b"ADDRESS") else {
+        return Given::Wrong;
+    };
+    let Parsed::Number(pc) = number_given(4, b"PC") else {
+        return Given::Wrong;
+    };
+    Given::At {
+        address: address,
+        pc: pc,
+    }
+}
+
 // Reads a file to its end. The room has a byte more than may be read, so that a longer file fills it.
 fn read_all(file: i32, said: &[u8], most: u64, room: &mut [u8]) -> Loaded
     ensures { λ r. ⌜ Within r (now (room .exit)) ⌝ }

@@ -1,5 +1,5 @@
-// The program for people: it checks an `.sframe` section, lists it, looks a PC up in it, asks it one address, works out one caller, or walks
-// a trace.
+// The program for people: it checks an `.sframe` section, lists it, looks a PC up in it, asks it one address, works out one caller, says why
+// a lookup or a caller comes to its answer, or walks a trace.
 // Every answer is the library's; this program reads the arguments and the files, and prints.
 mod arguments;
 mod help;
@@ -7,24 +7,28 @@ mod line;
 mod list;
 mod refusals;
 mod say;
+mod sentence;
 mod show;
+mod show_step_why;
 mod show_walks;
+mod show_why;
 mod version;
 mod walks;
 
+use crate::arguments::Given;
 use crate::arguments::Loaded;
+use crate::arguments::address_and_pc_given;
 use crate::arguments::file_given;
-use crate::arguments::number_given;
 use crate::help::show_help;
 use crate::list::answer_list;
 use crate::say::complain;
 use crate::show::show_answer;
 use crate::show::show_asked;
 use crate::show::show_verdict;
+use crate::show_why::show_lookup_why;
 use crate::version::show_version;
 use crate::walks::Sought;
 use crate::walks::answer_walk;
-use digits::Parsed;
 use lookup::look::lookup;
 
 // The longest section. With the longest stack window it fits the usual stack of 8 MiB.
@@ -36,6 +40,7 @@ enum Question {
     List,
     Lookup,
     Ask,
+    Why,
     Walks(Sought),
 }
 
@@ -71,7 +76,15 @@ fn own_command_of(word: &[u8]) -> Command {
     Command::Unknown
 }
 
-fn command_of(word: &[u8]) -> Command {
+// Why a lookup comes to its answer takes as many arguments as the lookup; any other number is taken for that of a caller.
+fn why_of(given: usize) -> Command {
+    if given == 3 {
+        return Command::Asks(Question::Why);
+    }
+    Command::Asks(Question::Walks(Sought::Why))
+}
+
+fn command_of(word: &[u8], given: usize) -> Command {
     if is_same(word, b"check") {
         return Command::Asks(Question::Check);
     }
@@ -83,6 +96,9 @@ fn command_of(word: &[u8]) -> Command {
     }
     if is_same(word, b"ask") {
         return Command::Asks(Question::Ask);
+    }
+    if is_same(word, b"why") {
+        return why_of(given);
     }
     if is_same(word, b"caller") {
         return Command::Asks(Question::Walks(Sought::Caller));
@@ -122,11 +138,17 @@ fn has_all(question: Question, given: usize) -> bool {
         Question::List => are_enough(given, 2, b"sframe: 'list' takes FILE [INDEX]\n"),
         Question::Lookup => are_all(given, 3, b"sframe: 'lookup' takes FILE ADDRESS PC\n"),
         Question::Ask => are_all(given, 3, b"sframe: 'ask' takes FILE ADDRESS PC\n"),
+        Question::Why => true,
         Question::Walks(asked) => match asked {
             Sought::Caller => are_enough(
                 given,
                 10,
                 b"sframe: 'caller' takes FILE ADDRESS STACK STACK_ADDRESS PC SP FP LR FIRST [MASK]\n",
+            ),
+            Sought::Why => are_all(
+                given,
+                10,
+                b"sframe: 'why' takes FILE ADDRESS PC, or FILE ADDRESS STACK STACK_ADDRESS PC SP FP LR FIRST MASK\n",
             ),
             Sought::Trace => are_enough(
                 given,
@@ -138,23 +160,24 @@ fn has_all(question: Question, given: usize) -> bool {
 }
 
 fn answer_lookup(section: &[u8]) {
-    let Parsed::Number(address) = number_given(3, b"ADDRESS") else {
-        return;
-    };
-    let Parsed::Number(pc) = number_given(4, b"PC") else {
-        return;
-    };
-    show_answer(lookup(section, address, pc));
+    match address_and_pc_given() {
+        Given::Wrong => {}
+        Given::At { address, pc } => show_answer(lookup(section, address, pc)),
+    }
 }
 
 fn answer_ask(section: &[u8]) {
-    let Parsed::Number(address) = number_given(3, b"ADDRESS") else {
-        return;
-    };
-    let Parsed::Number(pc) = number_given(4, b"PC") else {
-        return;
-    };
-    show_asked(ask::land::ask(section, address, pc));
+    match address_and_pc_given() {
+        Given::Wrong => {}
+        Given::At { address, pc } => show_asked(ask::land::ask(section, address, pc)),
+    }
+}
+
+fn answer_why(section: &[u8]) {
+    match address_and_pc_given() {
+        Given::Wrong => {}
+        Given::At { address, pc } => show_lookup_why(section, address, pc),
+    }
 }
 
 fn answer(question: Question, section: &[u8], given: usize) {
@@ -163,6 +186,7 @@ fn answer(question: Question, section: &[u8], given: usize) {
         Question::List => answer_list(section, given),
         Question::Lookup => answer_lookup(section),
         Question::Ask => answer_ask(section),
+        Question::Why => answer_why(section),
         Question::Walks(asked) => answer_walk(asked, section, given),
     }
 }
@@ -181,7 +205,7 @@ fn ask(question: Question, given: usize) {
 }
 
 fn run(word: &[u8], given: usize) {
-    match command_of(word) {
+    match command_of(word, given) {
         Command::Unknown => complain_of_word(word),
         Command::Help => {
             if are_all(given, 0, b"sframe: 'help' takes no arguments\n") {

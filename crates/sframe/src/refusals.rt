@@ -2,8 +2,8 @@
 use crate::say::say;
 use crate::say::say_number;
 
-// What 1 to 15 mean, the rules of a section.
-fn say_rule(number: u64) {
+// What 1 to 8 mean, the rules of a header.
+fn say_header_rule(number: u64) {
     match number {
         1 => say(b"fewer than 28 bytes"),
         2 => say(b"more than 16,777,216 bytes"),
@@ -13,6 +13,13 @@ fn say_rule(number: u64) {
         6 => say(b"the ABI is not 1, 2 or 3, or disagrees with the byte order"),
         7 => say(b"the fixed FP and RA offsets are not those of the ABI"),
         8 => say(b"the function table, the row area and the length do not fit together"),
+        _ => {}
+    }
+}
+
+// What 9 to 15 mean, the rules of entries and their rows.
+fn say_entry_rule(number: u64) {
+    match number {
         9 => say(b"an entry's info has bit 6 or 7 set, or a row type above 2"),
         10 => say(b"an entry has repeated blocks of size 0"),
         11 => say(b"the rows of an entry lie outside the row bytes"),
@@ -24,8 +31,8 @@ fn say_rule(number: u64) {
     }
 }
 
-// What each number means. The library gives none that is not here.
-fn say_meaning(number: u64) {
+// What 21 to 28 mean, of a lookup and a step.
+fn say_step_meaning(number: u64) {
     match number {
         21 => say(b"no function covers the PC"),
         22 => say(b"two or more functions cover the PC"),
@@ -35,14 +42,31 @@ fn say_meaning(number: u64) {
         26 => say(b"CFA is below SP, or equal to it without the first-frame mark"),
         27 => say(b"RA has no place: only the first frame has it in LR"),
         28 => say(b"a needed word is not wholly inside the stack window"),
+        _ => {}
+    }
+}
+
+// What the numbers from 30 on mean, of a trace and of an asked address.
+fn say_other_meaning(number: u64) {
+    match number {
         30 => say(b"RA is 0: the outermost frame"),
         31 => say(b"the limit is full"),
         41 => say(b"the stack window ends above 2^64"),
         42 => say(b"the limit is above 256"),
         43 => say(b"the buffer has fewer than 3 words for each frame of the limit"),
-        44 => { say(b"the function landed on covers the PC and breaks one of the rules 9 to 13") }
+        44 => say(b"the function landed on covers the PC and breaks one of the rules 9 to 13"),
         45 => say(b"the sorted flag is not set, and only a sorted section can be asked"),
-        _ => say_rule(number),
+        _ => {}
+    }
+}
+
+// What each number means. The library gives none that is not here.
+fn say_meaning(number: u64) {
+    match number {
+        1..=8 => say_header_rule(number),
+        9..=15 => say_entry_rule(number),
+        21..=28 => say_step_meaning(number),
+        _ => say_other_meaning(number),
     }
 }
 

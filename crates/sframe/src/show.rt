@@ -6,6 +6,7 @@ use crate::refusals::show_refused_in;
 use crate::refusals::show_unsound;
 use crate::say::say;
 use crate::say::say_number;
+use crate::sentence::say_with_number;
 use accept::section_check::check;
 use accept::verdict::Verdict;
 use ask::answer::AskAnswer;
@@ -60,7 +61,7 @@ pub fn show_verdict(section: &[u8]) {
     }
 }
 
-fn show_base(base: Base) {
+pub fn say_base(base: Base) {
     match base {
         Base::Fp => say(b"FP"),
         Base::Sp => say(b"SP"),
@@ -68,7 +69,7 @@ fn show_base(base: Base) {
 }
 
 // An offset with its sign, and 0 as + 0.
-fn show_offset(offset: Offset) {
+pub fn say_offset(offset: Offset) {
     match shift_of(offset) {
         Shift::Up(by) => {
             say(b" + ");
@@ -82,42 +83,47 @@ fn show_offset(offset: Offset) {
 }
 
 // Where a register was saved, behind its name; `unsaved` says that it was not.
-fn show_place(place: Place, name: &[u8], unsaved: &[u8]) {
+pub fn say_place(place: Place, name: &[u8], unsaved: &[u8]) {
     say(name);
     match place {
         Place::Register => say(unsaved),
         Place::AtOffset(offset) => {
             say(b" is at CFA");
-            show_offset(offset);
+            say_offset(offset);
         }
     }
-    say(b"\n");
+}
+
+pub fn say_cfa(row: Row) {
+    let base = row.base;
+    let cfa = row.cfa;
+    say(b"CFA is ");
+    say_base(base);
+    say_offset(cfa);
 }
 
 fn show_row(row: Row) {
-    let base = row.base;
-    let cfa = row.cfa;
     let ra = row.ra;
     let fp = row.fp;
-    say(b"CFA is ");
-    show_base(base);
-    show_offset(cfa);
-    say(b"\n");
-    show_place(ra, b"RA", b" is in LR");
+    say_cfa(row);
+    say_place(ra, b"\nRA", b" is in LR");
     if row.signed {
-        say(b"RA is signed\n");
+        say(b"\nRA is signed");
     }
-    show_place(fp, b"FP", b" is unchanged");
+    say_place(fp, b"\nFP", b" is unchanged");
+    say(b"\n");
+}
+
+// Which row was found.
+pub fn show_which(row: Row, function: u64, number: u64) {
+    say_with_number(b"found: function ", function);
+    say_with_number(b", row ", number);
+    say_with_number(b", which starts at ", row.start as u64);
+    say(b"\n");
 }
 
 fn show_found(row: Row, function: u64, number: u64) {
-    say(b"found: function ");
-    say_number(function);
-    say(b", row ");
-    say_number(number);
-    say(b", which starts at ");
-    say_number(row.start as u64);
-    say(b"\n");
+    show_which(row, function, number);
     show_row(row);
 }
 

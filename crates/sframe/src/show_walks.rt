@@ -20,7 +20,7 @@ fn show_register(name: &[u8], value: u64) {
     say(b"\n");
 }
 
-fn show_caller(caller: Registers) {
+pub fn show_caller(caller: Registers) {
     say(b"caller:\n");
     show_register(b"PC", caller.pc);
     show_register(b"SP", caller.sp);

@@ -1,8 +1,9 @@
-// One caller, and a whole trace: the arguments that both take, and the calls.
+// One caller, why it is that, and a whole trace: the arguments that all take, and the calls.
 use crate::arguments::Loaded;
 use crate::arguments::count_given;
 use crate::arguments::file_given;
 use crate::arguments::number_given;
+use crate::show_step_why::show_step_why;
 use crate::show_walks::show_limit;
 use crate::show_walks::show_step;
 use crate::show_walks::show_trace;
@@ -18,9 +19,10 @@ const STACK: usize = 1_048_576;
 // Three words for each of 256 frames.
 const WORDS: usize = 768;
 
-// What is sought: one caller, or a whole trace.
+// What is sought: one caller, why it is that, or a whole trace.
 pub enum Sought {
     Caller,
+    Why,
     Trace,
 }
 
@@ -70,7 +72,17 @@ fn mask_given(given: usize) -> Parsed {
     number_given(11, b"MASK")
 }
 
+// The caller, or why it is that.
+fn answer_step(why: bool, section: &[u8], stack: &[u8], process: Process, registers: Registers) {
+    if why {
+        show_step_why(section, stack, process, registers);
+        return;
+    }
+    show_step(registers.step(section, stack, process));
+}
+
 fn answer_caller(
+    why: bool,
     section: &[u8],
     stack: &[u8],
     process: Process,
@@ -87,7 +99,7 @@ fn answer_caller(
     masked.mask = mask;
     let mut marked = registers;
     marked.first = first;
-    show_step(marked.step(section, stack, masked));
+    answer_step(why, section, stack, masked, marked);
 }
 
 fn words_room() -> [u64; WORDS] {
@@ -150,7 +162,8 @@ fn answer_from(asked: Sought, section: &[u8], address: u64, stack: &[u8], given:
                 mask: 0,
             };
             match asked {
-                Sought::Caller => answer_caller(section, stack, process, registers, given),
+                Sought::Caller => answer_caller(false, section, stack, process, registers, given),
+                Sought::Why => answer_caller(true, section, stack, process, registers, given),
                 Sought::Trace => answer_trace(section, stack, process, registers, given),
             }
         }

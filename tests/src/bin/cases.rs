@@ -1,22 +1,25 @@
-//! Makes the stored cases of the program `replay`, and what it must print of them by the independent reader.
+//! Makes what is stored of the independent reader: the cases of the programs `replay` and `reasons` with what they must
+//! print of them, and the pages of `sframe why`.
 //!
-//!     cases write   writes both files
+//!     cases write   writes every file
 //!     cases test    fails where a stored file is not byte for byte what would be written
 
 use std::fs;
 use std::process::ExitCode;
-use suntimpani_tests::cases::{self, Case, Question};
+use suntimpani_tests::cases::{self, Case, Question, Why};
 use suntimpani_tests::walk::Walk;
-use suntimpani_tests::{in_repository, pack, reader};
+use suntimpani_tests::{in_repository, pack, reader, reasons, shown};
 
 const PACK: &str = "crates/replay/data/cases";
 const EXPECTED: &str = "crates/replay/stdout";
+const RECORDS: &str = "crates/reasons/data/cases";
+const LINES: &str = "crates/reasons/stdout";
 
 fn main() -> ExitCode {
     let arguments: Vec<String> = std::env::args().skip(1).collect();
     let done = match arguments.iter().map(String::as_str).collect::<Vec<_>>()[..] {
-        ["write"] => write(&made()),
-        ["test"] => test(&made()),
+        ["write"] => each(made(), write),
+        ["test"] => each(made(), test),
         _ => Err("usage: cases write | cases test".to_string()),
     };
     match done {
@@ -31,43 +34,63 @@ fn main() -> ExitCode {
     }
 }
 
+/// Files that are made together, and a line on what they hold.
 struct Made {
-    cases: usize,
-    questions: usize,
-    /// How many of the cases have questions.
-    asked_in: usize,
-    walks: usize,
-    pack: Vec<u8>,
-    expected: String,
+    holds: String,
+    files: Vec<File>,
 }
 
-impl Made {
-    fn counts(&self) -> String {
-        let Made { cases, questions, asked_in, walks, .. } = self;
-        format!(
-            "{cases} cases with {questions} questions in {asked_in} of them, each asked in two ways, and {walks} walks"
-        )
+struct File {
+    path: String,
+    /// One behind the other, each with the name of what it belongs to.
+    parts: Vec<(String, Vec<u8>)>,
+}
+
+impl File {
+    fn bytes(&self) -> Vec<u8> {
+        self.parts.iter().flat_map(|(_, bytes)| bytes).copied().collect()
+    }
+
+    // The part that a byte belongs to.
+    fn part_at(&self, at: usize) -> &str {
+        let mut end = 0;
+        let ends_behind = |(_, bytes): &&(String, Vec<u8>)| {
+            end += bytes.len();
+            at < end
+        };
+        self.parts.iter().find(ends_behind).map_or("what follows the last part", |(name, _)| name)
     }
 }
 
-fn made() -> Made {
-    let mut made = Made { cases: 0, questions: 0, asked_in: 0, walks: 0, pack: Vec::new(), expected: String::new() };
+fn made() -> [Made; 3] {
+    [of_cases(), of_whys(), of_pages()]
+}
+
+fn of_cases() -> Made {
     let cases = cases::all();
-    for case in &cases {
-        made.pack.extend(packed(case));
-        made.expected += &expected(case);
-        made.cases += 1;
-        made.questions += case.questions.len();
-        made.walks += case.walks.len();
+    let part = |case: &Case, text: String| (case.name.clone(), text.into_bytes());
+    let pack: Vec<_> = cases.iter().map(|case| (case.name.clone(), packed(case))).collect();
+    let answers = cases.iter().map(|case| part(case, expected(case)));
+    let expected: Vec<_> = answers.chain(cases.iter().map(|case| part(case, expected_asked(case)))).collect();
+    let (questions, walks) = (counted(&cases, |case| case.questions.len()), counted(&cases, |case| case.walks.len()));
+    let asked_in = cases.iter().filter(|case| !case.questions.is_empty()).count();
+    Made {
+        holds: format!(
+            "{} cases with {questions} questions in {asked_in} of them, each asked in two ways, and {walks} walks",
+            cases.len()
+        ),
+        files: vec![below(pack::LIMIT, PACK, pack), below(pack::EXPECTED_LIMIT, EXPECTED, expected)],
     }
-    for case in &cases {
-        made.expected += &expected_asked(case);
-        made.asked_in += usize::from(!case.questions.is_empty());
-    }
-    let (stored, text) = (made.pack.len(), made.expected.len());
-    assert!(stored < pack::LIMIT, "the pack has {stored} bytes, too many");
-    assert!(text < pack::EXPECTED_LIMIT, "what is expected has {text} bytes, too many");
-    made
+}
+
+fn counted(cases: &[Case], count: fn(&Case) -> usize) -> usize {
+    cases.iter().map(count).sum()
+}
+
+fn below(limit: usize, path: &str, parts: Vec<(String, Vec<u8>)>) -> File {
+    let length: usize = parts.iter().map(|(_, bytes)| bytes.len()).sum();
+    assert!(length < limit, "{path} has {length} bytes, too many");
+    File { path: path.to_string(), parts }
 }
 
 fn packed(case: &Case) -> Vec<u8> {
@@ -110,49 +133,71 @@ fn expected_asked(case: &Case) -> String {
     text
 }
 
-fn write(made: &Made) -> Result<String, String> {
-    for (path, bytes) in [(PACK, &made.pack[..]), (EXPECTED, made.expected.as_bytes())] {
-        let file = in_repository(path);
-        let folder = file.parent().expect("a stored file lies in a folder");
-        fs::create_dir_all(folder).map_err(|error| format!("{path}: {error}"))?;
-        fs::write(&file, bytes).map_err(|error| format!("{path}: {error}"))?;
-    }
-    let (stored, text) = (made.pack.len(), made.expected.len());
-    Ok(format!("{} written: {stored} bytes in {PACK}, {text} in {EXPECTED}", made.counts()))
+fn of_whys() -> Made {
+    let whys = cases::whys();
+    let records: Vec<_> = whys.iter().map(|why| (why.name.clone(), record(why))).collect();
+    let lines: Vec<_> = whys.iter().map(|why| (why.name.clone(), lines(why).into_bytes())).collect();
+    let files = vec![below(reasons::MOST_BYTES, RECORDS, records), below(reasons::EXPECTED_LIMIT, LINES, lines)];
+    Made { holds: format!("{} records, each a lookup and a step to be explained", whys.len()), files }
 }
 
-fn test(made: &Made) -> Result<String, String> {
-    for (path, bytes) in [(PACK, &made.pack[..]), (EXPECTED, made.expected.as_bytes())] {
-        let stored = fs::read(in_repository(path)).map_err(|error| format!("{path}: {error}"))?;
-        if let Some(at) = first_difference(&stored, bytes) {
-            let (has, needs) = (stored.len(), bytes.len());
-            let case = &case_at(made, path, at);
-            return Err(format!("{path}: byte {at} differs, in {case} ({has} bytes stored, {needs} made)"));
+fn record(why: &Why) -> Vec<u8> {
+    let mut bytes = Vec::new();
+    why.record.put(&mut bytes);
+    bytes
+}
+
+// What the reader says, once it is seen to be what the author states.
+fn lines(Why { name, record, lookup, step }: &Why) -> String {
+    assert_eq!(record.lookup(), *lookup, "{name}: the reader and the author disagree");
+    assert_eq!(record.step(), *step, "{name}: the reader and the author disagree");
+    record.lines()
+}
+
+fn of_pages() -> Made {
+    let file = |name: &str, bytes| File {
+        path: format!("{}/{name}", shown::FOLDER),
+        parts: vec![(format!("the file {name}"), bytes)],
+    };
+    let pages = shown::PAGES.map(|page| file(&page.file(), page.text().into_bytes()));
+    let made = shown::made().map(|(name, bytes)| file(name, bytes));
+    let holds = format!("{} pages of 'sframe why', and {} files for them", pages.len(), made.len());
+    Made { holds, files: pages.into_iter().chain(made).collect() }
+}
+
+// What is said of all, a line each.
+fn each(made: [Made; 3], done: fn(&File) -> Result<&'static str, String>) -> Result<String, String> {
+    let mut lines = Vec::new();
+    for Made { holds, files } in made {
+        let said = files.iter().map(done).collect::<Result<Vec<_>, String>>()?;
+        let length: usize = files.iter().map(|file| file.bytes().len()).sum();
+        lines.push(format!("{holds}: {} files, {length} bytes, {}", files.len(), said[0]));
+    }
+    Ok(lines.join("\n"))
+}
+
+fn write(file: &File) -> Result<&'static str, String> {
+    let path = in_repository(&file.path);
+    let folder = path.parent().expect("a stored file lies in a folder");
+    fs::create_dir_all(folder).map_err(|error| format!("{}: {error}", file.path))?;
+    fs::write(&path, file.bytes()).map_err(|error| format!("{}: {error}", file.path))?;
+    Ok("written")
+}
+
+fn test(file: &File) -> Result<&'static str, String> {
+    let (path, made) = (&file.path, file.bytes());
+    let stored = fs::read(in_repository(path)).map_err(|error| format!("{path}: {error}"))?;
+    match first_difference(&stored, &made) {
+        None => Ok("stored as made"),
+        Some(at) => {
+            let (has, needs, part) = (stored.len(), made.len(), file.part_at(at));
+            Err(format!("{path}: byte {at} differs, in {part} ({has} bytes stored, {needs} made)"))
         }
     }
-    Ok(format!("{}: both stored files are as made ({} bytes of cases)", made.counts(), made.pack.len()))
 }
 
 fn first_difference(stored: &[u8], made: &[u8]) -> Option<usize> {
     let differs = stored.iter().zip(made).position(|(a, b)| a != b);
     let shorter = stored.len().min(made.len());
     differs.or((stored.len() != made.len()).then_some(shorter))
-}
-
-// The case that a byte of a made file belongs to.
-fn case_at(made: &Made, path: &str, at: usize) -> String {
-    let cases = cases::all();
-    let parts: Vec<usize> = if path == PACK {
-        cases.iter().map(|case| packed(case).len()).collect()
-    } else {
-        cases.iter().map(|case| expected(case).len()).chain(cases.iter().map(|c| expected_asked(c).len())).collect()
-    };
-    let mut end = 0;
-    for (place, length) in parts.into_iter().enumerate() {
-        end += length;
-        if at < end {
-            return cases[place % cases.len()].name.clone();
-        }
-    }
-    format!("what follows the last of {} cases", made.cases)
 }

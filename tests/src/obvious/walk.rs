@@ -138,7 +138,7 @@ fn row_for(meaning: &Meaning, address: u64, pc: u64) -> Result<Row, u64> {
 }
 
 // "Words are 8 bytes in the section's byte order"; none where one of them is not a byte of the window.
-fn word_at(big: bool, stack: &[u8], process: Process, address: i128) -> Option<u64> {
+pub(super) fn word_at(big: bool, stack: &[u8], process: Process, address: i128) -> Option<u64> {
     let byte = |number: i128| {
         let place = address + number - i128::from(process.stack);
         let inside = 0 <= place && place < stack.len() as i128;

@@ -157,7 +157,7 @@ impl<'a> Window<'a> {
 }
 
 impl Order {
-    fn word(self, bytes: [u8; 8]) -> u64 {
+    pub(super) fn word(self, bytes: [u8; 8]) -> u64 {
         match self {
             Order::Little => u64::from_le_bytes(bytes),
             Order::Big => u64::from_be_bytes(bytes),

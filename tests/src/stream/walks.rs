@@ -46,7 +46,7 @@ fn machine_of(section: &Section) -> Machine {
 
 // Frames of 0 to 48 bytes, the words in them saved near CFA, a third of them where a compiler saves them, and seldom
 // from FP.
-fn short_row(random: &mut Random, machine: Machine, start: u32) -> Row {
+pub(super) fn short_row(random: &mut Random, machine: Machine, start: u32) -> Row {
     let saved = [-8, -16, -8, -16, -8, -16, -8, -16, -24, -24, 0, 8, -1];
     let cfa = random.pick(&[8, 8, 8, 8, 16, 16, 16, 16, 16, 24, 32, 32, 48, 48, 0, -8, 1]);
     let offsets = match (random.once_in(3), machine) {
@@ -151,7 +151,7 @@ fn put(walk: &mut Walk, big: bool, address: u64, word: u64) {
     }
 }
 
-fn walk(random: &mut Random, functions: &[Function], big: bool) -> Walk {
+pub(super) fn walk(random: &mut Random, functions: &[Function], big: bool) -> Walk {
     let (address, length) = window(random);
     let section = if random.once_in(16) { random.pick(&[0, 0x1000, u64::MAX - 0xffff]) } else { ADDRESS };
     let process = Process { section, stack: address, mask: mask(random) };

@@ -9,6 +9,7 @@ mod sections;
 mod stack;
 mod table;
 mod times;
+mod why;
 
 use std::env;
 use std::time::Instant;
@@ -24,11 +25,17 @@ const FRAMES_ALONE: &str = "frames";
 /// The argument that asks for the asks alone.
 const ASKS_ALONE: &str = "ask";
 
+/// The argument that asks for the runs of `sframe why` alone.
+const WHY_ALONE: &str = "why";
+
 fn main() {
     let begin = Instant::now();
     let part = env::args().nth(1).unwrap_or_default();
     if part == FRAMES_ALONE {
         return print_frames();
+    }
+    if part == WHY_ALONE {
+        return why::print_lines();
     }
     let libsframe = Libsframe::open();
     if part == ASKS_ALONE {
@@ -50,6 +57,8 @@ fn print_tables(libsframe: Option<&Libsframe>, all: bool) {
     if all {
         print_calls(libsframe);
         resident::print_lines();
+        println!();
+        why::print_lines();
         println!();
     }
     rows::print_lines(libsframe);
@@ -126,6 +135,10 @@ fn print_notes() {
         "of so many bytes. a row: the library's time by the rows passed. decoding: a reader that decodes each of them."
     );
     println!("stack: the most bytes that a call wrote below its return address, over so many calls.");
+    println!(
+        "why: a whole run of the program, which reads its file, beside a run of sframe lookup; and the least limit of the"
+    );
+    println!("stack, by ulimit -s, under which each answers.");
 }
 
 fn print_notes_on_asks() {

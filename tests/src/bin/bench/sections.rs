@@ -137,7 +137,7 @@ fn whole(name: String, bytes: Vec<u8>) -> Timed {
     Timed { name, pcs: pcs_over(&bytes, 100_000), walk: Some(walk), bytes, checked: true, listed: false }
 }
 
-fn name_of(count: usize, more: &str) -> String {
+pub fn name_of(count: usize, more: &str) -> String {
     let (thousands, rest) = (count / 1_000, count % 1_000);
     let digits = if thousands == 0 { rest.to_string() } else { format!("{thousands},{rest:03}") };
     format!("{digits} functions{more}")

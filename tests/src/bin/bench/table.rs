@@ -137,6 +137,33 @@ fn print_resident_cells(cells: [&str; 5], resident: [&str; 5]) {
 }
 
 /// A line of a call's stack, in the library's column.
+/// What a run of `sframe why` takes beside one of `sframe lookup`.
+pub struct WhyLine {
+    pub section: String,
+    pub answer: &'static str,
+    /// Of both.
+    pub times: Vec<Times>,
+    /// The least limit of the stack of both, in KiB.
+    pub stack: [u32; 2],
+}
+
+pub fn print_why_head() {
+    print_why(["run", "section", "answer", "why", "lookup", "why, stack", "lookup, stack"]);
+}
+
+impl WhyLine {
+    pub fn print(&self) {
+        let [why, lookup] = [0, 1].map(|way| duration(self.times[way].median()));
+        let [by_why, by_lookup] = self.stack.map(|limit| format!("{limit} KiB"));
+        print_why(["why", &self.section, self.answer, &why, &lookup, &by_why, &by_lookup]);
+    }
+}
+
+fn print_why(cells: [&str; 7]) {
+    let [run, section, answer, why, lookup, by_why, by_lookup] = cells;
+    println!("{run:<6}  {section:<55}  {answer:<6}  {why:>8}  {lookup:>8}  {by_why:>10}  {by_lookup:>13}");
+}
+
 pub fn print_stack(call: &str, calls: usize, bytes: usize) {
     let (measured, bytes) = (format!("{call}, the most of {calls} calls"), format!("{bytes} B"));
     print_cells(["stack", &measured, &bytes, DASH, DASH, DASH, DASH]);
