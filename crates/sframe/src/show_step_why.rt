@@ -98,11 +98,12 @@ fn show_cfa_outside(row: Row, value: u64, offset: Offset) {
     say(b" (SPECIFICATION 5.6)\n");
 }
 
-// 26.
-fn show_cfa_low(callersp: u64, sp: u64) {
+// 26. Where the two are equal there is no mark; below, the mark does not count, and is told as it is.
+fn show_cfa_low(callersp: u64, sp: u64, first: u64) {
     say_with_word(b"  the caller's SP would be ", callersp);
     if callersp < sp {
         say_with_word(b", below SP, which is ", sp);
+        say_with_word(b"; the first-frame mark is ", first);
         say(b" (SPECIFICATION 5.7)\n");
         return;
     }
@@ -222,7 +223,7 @@ fn show_reason_why(row: Row, mask: u64, reason: RowReason) {
             callersp,
             sp,
             first,
-        } => show_cfa_low(callersp, sp),
+        } => show_cfa_low(callersp, sp, first),
         RowReason::RaLost { first } => {
             say(
                 b"  the row leaves RA in LR, and there is no first-frame mark (SPECIFICATION 5.8)\n",

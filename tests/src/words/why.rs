@@ -181,9 +181,9 @@ fn behind(row: &Row, then: &Then, mask: u64) -> Vec<String> {
             let numbers = format!("{register} is {base:016x} and the offset is {}", signed(offset));
             vec![format!("{numbers}: their sum is {} (SPECIFICATION 5.6)", summed(sum))]
         }
-        Then::TooLow { caller_sp, sp, .. } => {
+        Then::TooLow { caller_sp, sp, first } => {
             let compared = if caller_sp < sp {
-                format!("below SP, which is {sp:016x}")
+                format!("below SP, which is {sp:016x}; the first-frame mark is {first:016x}")
             } else {
                 "which SP is, and there is no first-frame mark".to_string()
             };
