@@ -19,7 +19,7 @@ pub const FOLDER: &str = "vectors/why";
 pub struct Page(pub &'static str, pub &'static str);
 
 /// Lookups, and then callers, each in the order of what they come to.
-pub const PAGES: [Page; 39] = [
+pub const PAGES: [Page; 40] = [
     Page("found", "../recorder/section.sframe 559a1c5b0670 559a1c5ad3de"),
     Page("found_without_next_row", "../recorder/section.sframe 559a1c5b0670 559a1c5ad944"),
     Page("found_in_block", "../corpus/sections/amd64_plt_so.sframe 21b8 102e"),
@@ -44,6 +44,8 @@ pub const PAGES: [Page; 39] = [
         "caller_21",
         "../recorder/section.sframe 559a1c5b0670 ../recorder/stack.bin 7ffd67744068 7fd92866024a 7ffd677442c0 3 0 0 0",
     ),
+    // PC itself is covered, and the PC looked up is not.
+    Page("caller_21_before_a_function", "s.sframe 400000 k12.stack 7000 401040 7000 7030 0 0 0"),
     Page("caller_22", "../corpus/sections/amd64_hand_o.sframe 1000 k12.stack 7000 1005 7000 7030 0 1 0"),
     Page("caller_23", "late.sframe 1000 k12.stack 7000 1024 7000 7030 0 0 0"),
     Page(

@@ -143,14 +143,14 @@ fn is_covered(near: Nearest) -> bool {
     }
 }
 
-// What is not covered, by whether an address is covered on each side.
+// What is not covered, by whether an address is covered on each side. In a step PC itself may be: the PC looked up is not.
 fn show_uncovered(below: bool, above: bool) {
     if below != above {
-        say(b"  nothing up to it is covered, PC included (SPECIFICATION 4.1, 4.3)\n");
+        say(b"  nothing up to it is covered, the PC looked up included (SPECIFICATION 4.1, 4.3)\n");
         return;
     }
     if below {
-        say(b"  nothing between is covered, PC included (SPECIFICATION 4.1, 4.3)\n");
+        say(b"  nothing between is covered, the PC looked up included (SPECIFICATION 4.1, 4.3)\n");
         return;
     }
     say(b"  nothing is covered (SPECIFICATION 4.1, 4.3)\n");

@@ -159,9 +159,9 @@ fn nearest(below: &Option<Near>, above: &Option<Near>) -> Vec<String> {
         None => format!("no function covers an address {side}"),
     };
     let uncovered = match (below, above) {
-        (Some(_), Some(_)) => "nothing between is covered, PC included",
+        (Some(_), Some(_)) => "nothing between is covered, the PC looked up included",
         (None, None) => "nothing is covered",
-        _ => "nothing up to it is covered, PC included",
+        _ => "nothing up to it is covered, the PC looked up included",
     };
     vec![side(below, "below"), side(above, "above"), format!("{uncovered} (SPECIFICATION 4.1, 4.3)")]
 }
@@ -256,7 +256,7 @@ refused: 21, no function covers the PC
   PC is +0x1020 from the section's first byte
   the nearest address below that a function covers is +0x101f, by function 0
   the nearest address above that a function covers is +0x1040, by function 1
-  nothing between is covered, PC included (SPECIFICATION 4.1, 4.3)
+  nothing between is covered, the PC looked up included (SPECIFICATION 4.1, 4.3)
 ";
     const NOT_INSIDE: &str = "\
 refused: 28, a needed word is not wholly inside the stack window
