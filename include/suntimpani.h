@@ -28,8 +28,10 @@
  * segment longer than the section where it merged several; the section's length is then 28, plus byte 7, plus 20 times
  * the number of 4 bytes at 8, plus the number of 4 bytes at 16.
  *
- * The stack window is the live stack, from SP upwards. On AMD64 let it begin 8 bytes below SP where you can: the row
- * at a `ret` may place FP there.
+ * The stack window is the live stack of the thread that crashed. On AMD64 let it begin 128 bytes below SP, with the red
+ * zone, or at the stack's lowest address where that is above: at the end of a function a row may place FP below SP. Let
+ * it end where the thread's stack does; each thread asks pthread_getattr_np for that before the crash, since no signal
+ * handler may.
  *
  * A lookup, a caller and a trace each check the section first, and a trace checks it once. A check reads every row of
  * every function, so its time grows with them. Functions may share rows, so a section that was made to be slow can ask
@@ -37,6 +39,23 @@
  * 1 to 8 and read one entry. suntimpani_next_row reads one row alone. So the time of these three does not grow with
  * the section. suntimpani_ask makes none either: it tries rules 1 to 8 and reads at most 20 entries and the rows of one
  * function, so that its time grows with these rows alone.
+ *
+ *
+ * What a recorder meets
+ *
+ * A trace that is full (31) is not gone on with by another trace, which would begin with the first-frame mark again: RA
+ * would be looked up as it is, and CFA could be SP. Go on by suntimpani_caller. The registers behind a frame are PC =
+ * its RA, SP = its CFA, FP = its FP, `lr` of the crash, and `first` 0.
+ *
+ * A PC in no function of the section is 21, and where it is the first there is no frame at all. After a call through a
+ * null pointer RA is the word at SP (AArch64: LR): go on from there with PC = RA, SP + 8 (AArch64: SP) and `first` 0.
+ * Of a crash in another module, the C library too, that module's section tells, if it has one. One section is lent at a
+ * time: have a table of them before the crash, take the one for the PC that is looked up, and walk by
+ * suntimpani_caller.
+ *
+ * GNU ld 2.44 drops `.sframe` under --gc-sections, which rustc passes: link with --no-gc-sections, or with a script of
+ * `SECTIONS { .sframe : { KEEP(*(.sframe)) } } INSERT AFTER .eh_frame;` by -T. The archive has no unwind data of its
+ * own, so that a sample taken inside one of its functions is 21. docs/INTEGRATING.md of the repository says more.
  *
  *
  * Signed return addresses
@@ -147,7 +166,7 @@
 #include <stdint.h>
 
 /* The version of this header and of the archive beside it. */
-#define SUNTIMPANI_VERSION "0.5.1"
+#define SUNTIMPANI_VERSION "0.6.0"
 
 /* How many frames a trace may have whose limit is 0. Who passes this name in place of 0, and has the size of the buffer
  * from it, lends enough whatever 0 means in the archive. */
@@ -312,8 +331,8 @@ suntimpani_answer suntimpani_ask(const uint8_t *section, size_t length, uint64_t
 suntimpani_step suntimpani_caller(const uint8_t *section, size_t length, const uint8_t *stack, size_t stack_length,
                                   suntimpani_process process, suntimpani_registers registers);
 
-/* The whole trace from the registers of the crash, whatever their `first`. Limit 0 means 128 (before version 0.5.0 it
- * was 64); otherwise it is 1 to 256.
+/* The whole trace from the registers of the crash, whatever their `first`: so it cannot go on where another ended.
+ * Limit 0 means 128 (before version 0.5.0 it was 64); otherwise it is 1 to 256.
  *
  * The buffer has at least 3 words of 64 bits for each frame of the limit: 384 for limit 0, 768 for 256. `words` is how
  * many it has. Frame i is words 3i, 3i + 1 and 3i + 2: CFA, RA and the caller's FP. RA is as it was read, or on a

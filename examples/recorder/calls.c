@@ -3,14 +3,11 @@
 
 #include "recorder.h"
 
-#define APART __attribute__((noinline))
-#define NEVER_RETURNS __attribute__((noreturn))
-
 static volatile int *volatile nowhere;
 static volatile int depth;
 
 /* The fault: in the body of a function that keeps no frame pointer. */
-static APART NEVER_RETURNS void third(int value) {
+APART NEVER_RETURNS void third(int value) {
     volatile int kept[40];
     NOTE_RETURN(IN_THIRD);
     kept[value] = value;
@@ -18,15 +15,36 @@ static APART NEVER_RETURNS void third(int value) {
     __builtin_trap();
 }
 
+/* In the place of `third`: asks for all the room that its stack has but less than the 128 bytes that a window begins
+ * below SP, so that these reach below the stack. */
+APART NEVER_RETURNS void brink(int value) {
+    const char *here = (const char *)alloca(16);
+    volatile char *room;
+    NOTE_RETURN(IN_THIRD);
+    room = (volatile char *)alloca((size_t)((uint64_t)(uintptr_t)here - lowest_of_stack()) - 96);
+    room[value] = (char)value;
+    *nowhere = room[value];
+    __builtin_trap();
+}
+
+/* The compiler is told where nothing comes back, and leaves out what would come behind the call. */
+static void (*volatile called_third)(int);
+
+void let_last_call(void (*called)(int)) {
+    called_third = called;
+}
+
 /* Its last instruction is the call, since nothing comes back from it: the return address is the first byte behind this
  * function. As GCC lays it out here, another one begins there; clang fills up to the next multiple of 16. */
 static APART NEVER_RETURNS void last(int value) {
+    void (*called)(int) = called_third;
     volatile int kept[20];
     NOTE_RETURN(IN_LAST);
     kept[value] = value + 1;
     value = kept[value];
     NOTE_CALL(IN_THIRD, value);
-    third(value);
+    called(value);
+    __builtin_unreachable();
 }
 
 /* Read when it is called, so that the compiler does not know that nothing comes back from here either. */
@@ -55,21 +73,56 @@ APART int first(int value) {
     return value + kept[depth];
 }
 
-/* Read when it is called, so that the compiler makes no loop of the calls. */
-static int (*volatile called_deep)(int) = deep;
+/* The fault of the deep calls: `left` is 0, the number of its own frame in a trace. */
+static APART NEVER_RETURNS int bottom(int left) {
+    NOTE_RETURN(left);
+    *nowhere = left;
+    __builtin_trap();
+}
 
-/* Calls itself, and faults in the last of these calls: `left` is how many are to come, and so the number of its own
- * frame in a trace. */
-APART int deep(int left) {
-    int (*called)(int) = called_deep;
+/* Read when it is called, so that the compiler makes no loop of the calls. */
+static int (*volatile called_deep[])(int) = {deep, bottom};
+
+/* Calls itself while more than one call is to come: `left` is how many, and so the number of its own frame. It ends in
+ * the call as `last` does, so that no frame of it is found by looking up RA itself. */
+APART NEVER_RETURNS int deep(int left) {
+    int (*called)(int) = called_deep[left == 1];
     volatile int kept[2];
     NOTE_RETURN(left);
     kept[0] = left;
-    if (left == 0) {
-        return *nowhere;
-    }
-    left--;
+    left = kept[0] - 1;
     NOTE_CALL(left, left);
-    left = called(left);
-    return left + kept[depth];
+    called(left);
+    __builtin_unreachable();
+}
+
+/* What the module calls: it asks for a frame pointer as `second` does, and calls the module again. */
+APART int between(int value) {
+    volatile char *room = (volatile char *)alloca((size_t)value + 200);
+    NOTE_RETURN(IN_BETWEEN);
+    room[value] = (char)value;
+    value++;
+    NOTE_CALL(IN_MODULE, value);
+    value = in_module(value);
+    return value + room[depth];
+}
+
+/* No room of its own, and nothing kept. */
+static APART int leaf(int value) {
+    return value * 3 + depth;
+}
+
+/* A frame pointer, and with it rows that count from FP. */
+static APART int by_pointer(int value) {
+    volatile char *room = (volatile char *)alloca((size_t)value + 50);
+    room[value] = (char)leaf(value);
+    return room[value] + leaf(value + 1);
+}
+
+/* Has more to keep over its calls than there are registers for it, so that it saves all of them, FP too, and gets them
+ * back before it returns: at its end the place of FP is far below SP. */
+APART int saves_all(int value) {
+    int one = leaf(value), two = leaf(one), three = leaf(two), four = leaf(three), five = leaf(four), six = leaf(five);
+    int seven = by_pointer(value), eight = value > 9 ? 0 : saves_all(value + 1);
+    return (one ^ two ^ three ^ four ^ five ^ six ^ seven ^ eight) | 1;
 }

@@ -1,4 +1,4 @@
-/* Finds the `.sframe` section of this program in its own memory. Not for a signal handler: called before the crash. */
+/* Finds the `.sframe` section of a loaded module in memory. Not for a signal handler: called before the crash. */
 #define _GNU_SOURCE
 #include <link.h>
 #include <string.h>
@@ -25,24 +25,29 @@ static size_t section_length(lent_bytes segment) {
     return said < segment.length ? (size_t)said : segment.length;
 }
 
-static int find_segment(struct dl_phdr_info *loaded, size_t size, void *found) {
+lent_bytes section_of(const struct dl_phdr_info *loaded) {
+    lent_bytes section = {NULL, 0};
     ElfW(Half) number;
-    (void)size;
     for (number = 0; number < loaded->dlpi_phnum; number++) {
         const ElfW(Phdr) *segment = &loaded->dlpi_phdr[number];
         if (segment->p_type == GNU_SFRAME_SEGMENT) {
-            lent_bytes *section = (lent_bytes *)found;
-            section->bytes = (const uint8_t *)(loaded->dlpi_addr + segment->p_vaddr);
-            section->length = segment->p_memsz;
+            section.bytes = (const uint8_t *)(loaded->dlpi_addr + segment->p_vaddr);
+            section.length = segment->p_memsz;
         }
     }
-    /* The program itself is the first that is shown; 1 ends the listing before its libraries. */
+    section.length = section_length(section);
+    return section;
+}
+
+/* The program itself is the first that is shown; 1 ends the listing before its libraries. */
+static int take_first(struct dl_phdr_info *loaded, size_t size, void *found) {
+    (void)size;
+    *(lent_bytes *)found = section_of(loaded);
     return 1;
 }
 
 lent_bytes own_section(void) {
     lent_bytes section = {NULL, 0};
-    dl_iterate_phdr(find_segment, &section);
-    section.length = section_length(section);
+    dl_iterate_phdr(take_first, &section);
     return section;
 }

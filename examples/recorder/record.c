@@ -79,8 +79,11 @@ static int write_frames(const crash *recorded) {
     return close(file) == 0;
 }
 
-/* 0 where a file cannot be written. */
+/* The stack is written up to where main's caller begins: nothing above belongs to a frame of this program, and on the
+ * first thread's stack the environment lies there. 0 where a file cannot be written. */
 int write_record(const crash *recorded) {
-    return write_bytes(SECTION_FILE, recorded->section) && write_bytes(STACK_FILE, recorded->stack) && write_run(recorded) &&
+    lent_bytes stack = recorded->stack;
+    stack.length = recorded->expected[IN_MAIN].cfa - recorded->process.stack_address;
+    return write_bytes(SECTION_FILE, recorded->section) && write_bytes(STACK_FILE, stack) && write_run(recorded) &&
            write_frames(recorded);
 }

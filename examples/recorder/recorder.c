@@ -4,147 +4,49 @@
  *     recorder                 faults four calls deep, prints the trace and says whether each frame is as expected
  *     recorder --record DIR    does the same and writes the crash to files of that folder, which must exist
  *     recorder --deep          faults 150 calls deep, and walks that under limit 0 and under 256
+ *     recorder --deeper        faults 300 calls deep: a trace is full after 256 frames, and is gone on from there
+ *     recorder --thread        faults in a thread, on that thread's stack
+ *     recorder --brink         faults in a thread with SP less than 128 bytes above the end of its stack
+ *     recorder --null          calls a null pointer: the PC lies in no function, and the caller is found all the same
+ *     recorder --modules       faults in a shared object that the program called into twice, each PC by its section
+ *     recorder --steps         does not fault: it walks from each instruction of some calls (AMD64)
  *
  * The status is 0 only where every frame and the ending are as expected. */
 #define _GNU_SOURCE
-#include <signal.h>
+#include <pthread.h>
 #include <stdio.h>
-#include <stdlib.h>
 #include <string.h>
-#include <sys/ucontext.h>
-#include <unistd.h>
 
 #include "recorder.h"
 
 crash seen;
 
-/* What is asked for, and the number of main's own frame. */
-static int recording, deeper, in_main;
+/* What a word of the command line asks for. */
+typedef struct {
+    const char *word;
+    int (*called)(int); /* by main or by the thread, with the value */
+    int value;
+    void (*by_last)(int); /* what `last` calls */
+    int in_thread;
+    int (*walk)(void);
+    int innermost, outermost; /* of the frames that are expected */
+} option;
 
-static void say_frame(uint64_t number, const uint64_t *words) {
-    say_count(1, number, 5);
-    say(1, "  ");
-    say_word(1, words[0]);
-    say(1, "  ");
-    say_word(1, words[1]);
-    say(1, "  ");
-    say_word(1, words[2]);
-    say(1, "\n");
-}
-
-static void say_trace(suntimpani_traced traced, const uint64_t *words) {
-    uint64_t number;
-    say(1, "frame  CFA               RA                FP\n");
-    for (number = 0; number < traced.frames; number++) {
-        say_frame(number, words + 3 * number);
-    }
-    say(1, "frames: ");
-    say_count(1, traced.frames, 1);
-    say(1, "\nended: ");
-    say_count(1, traced.ending, 1);
-    say(1, "\n");
-}
-
-/* 1 where a word differs from what was noted. */
-static int differs(uint64_t number, const char *name, uint64_t got, uint64_t noted) {
-    if (got == noted) {
-        return 0;
-    }
-    say(1, "recorder: frame ");
-    say_count(1, number, 1);
-    say(1, name);
-    say_word(1, got);
-    say(1, ", and was noted as ");
-    say_word(1, noted);
-    say(1, "\n");
-    return 1;
-}
-
-static int differences(uint64_t frames, const uint64_t *words) {
-    uint64_t number;
-    int count = 0;
-    for (number = 0; number < frames; number++) {
-        const frame *noted = &seen.expected[number];
-        count += differs(number, ": CFA is ", words[3 * number], noted->cfa);
-        count += differs(number, ": RA is ", words[3 * number + 1], noted->ra);
-        count += differs(number, ": FP is ", words[3 * number + 2], noted->fp);
-    }
-    return count;
-}
-
-/* The words that both have are compared even where the number of frames is another. */
-static int is_as_expected(suntimpani_traced traced, const uint64_t *words, uint64_t frames, uint64_t ending) {
-    int same = traced.frames == frames && traced.ending == ending;
-    if (differences(traced.frames < frames ? traced.frames : frames, words) > 0) {
-        return 0;
-    }
-    say(1, "recorder: ");
-    say_count(1, frames, 1);
-    say(1, same ? " frames as expected, and the ending " : " frames were expected, and the ending ");
-    say_count(1, ending, 1);
-    say(1, ending == FULL ? ": the limit is full\n" : ": this program's section does not cover the C library\n");
-    return same;
-}
-
-static int record(void) {
-    int written = !recording || write_record(&seen);
-    if (!written) {
-        say(2, "recorder: the crash cannot be written to that folder\n");
-    }
-    return written;
-}
-
-#if defined(__aarch64__)
-static void take_registers(const mcontext_t *at_fault) {
-    seen.registers.pc = at_fault->pc;
-    seen.registers.sp = at_fault->sp;
-    seen.registers.fp = at_fault->regs[29];
-    seen.registers.lr = at_fault->regs[30];
-}
-#else
-static void take_registers(const mcontext_t *at_fault) {
-    seen.registers.pc = (uint64_t)at_fault->gregs[REG_RIP];
-    seen.registers.sp = (uint64_t)at_fault->gregs[REG_RSP];
-    seen.registers.fp = (uint64_t)at_fault->gregs[REG_RBP];
-}
+static const option options[] = {
+    {"", first, 1, third, 0, walk_usual, IN_THIRD, IN_MAIN},
+    {"--record", first, 1, third, 0, walk_and_record, IN_THIRD, IN_MAIN},
+    {"--deep", deep, DEEP - 1, third, 0, walk_deep, 0, DEEP},
+    {"--deeper", deep, DEEPER - 1, third, 0, walk_deeper, 0, DEEPER},
+    {"--thread", first, 1, third, 1, walk_usual, IN_THIRD, IN_MAIN},
+    {"--brink", first, 1, brink, 1, walk_usual, IN_THIRD, IN_MAIN},
+    {"--null", first, 1, NULL, 0, walk_null, IN_LAST, IN_MAIN},
+    {"--modules", into_module, 1, third, 0, walk_modules, IN_MODULE, BEFORE_MODULE},
+#if defined(__x86_64__)
+    {"--steps", step_through, 1, third, 0, walk_usual, 0, 1},
 #endif
+};
 
-static suntimpani_traced walk(uint64_t limit, uint64_t *words, size_t lent) {
-    return suntimpani_trace(seen.section.bytes, seen.section.length, seen.stack.bytes, seen.stack.length, seen.process,
-                            seen.registers, limit, words, lent);
-}
-
-/* The usual crash, under the usual limit: the buffer has its size from the same name, so that they fit each other. */
-static int walk_usual(void) {
-    static uint64_t words[3 * SUNTIMPANI_USUAL_LIMIT];
-    suntimpani_traced traced = walk(SUNTIMPANI_USUAL_LIMIT, words, 3 * SUNTIMPANI_USUAL_LIMIT);
-    int recorded;
-    say_trace(traced, words);
-    recorded = record();
-    return is_as_expected(traced, words, FRAMES, OUTSIDE) && recorded;
-}
-
-/* The deep crash has more frames than limit 0 allows, and fewer than the highest limit. */
-static int walk_deep(void) {
-    static uint64_t words[3 * HIGHEST];
-    suntimpani_traced cut = walk(0, words, 3 * SUNTIMPANI_USUAL_LIMIT), whole;
-    int expected = is_as_expected(cut, words, SUNTIMPANI_USUAL_LIMIT, FULL);
-    whole = walk(HIGHEST, words, 3 * HIGHEST);
-    return is_as_expected(whole, words, DEEP_FRAMES, OUTSIDE) && expected;
-}
-
-static void on_fault(int signal_number, siginfo_t *info, void *context) {
-    (void)signal_number;
-    (void)info;
-    take_registers(&((const ucontext_t *)context)->uc_mcontext);
-    seen.registers.first = 1;
-    /* The stack window ends where main's caller begins: nothing above belongs to a frame of this program. */
-    seen.stack.bytes = (const uint8_t *)seen.registers.sp;
-    seen.stack.length = seen.expected[in_main].cfa - seen.registers.sp;
-    seen.process.section_address = (uint64_t)(uintptr_t)seen.section.bytes;
-    seen.process.stack_address = seen.registers.sp;
-    _exit((deeper ? walk_deep() : walk_usual()) ? 0 : 1);
-}
+static const option *asked;
 
 /* The bits that may hold the signature of a return address: all above those of a user's address, which are 0 in it. A
  * program's stack lies at the top of the user's addresses, so that one in it has their highest bit. */
@@ -159,21 +61,6 @@ static uint64_t signature_bits(const void *in_stack) {
 }
 #endif
 
-/* The handler gets a stack of its own: a crash may have used up the other. */
-static int prepare_handler(void) {
-    static char own_stack[65536];
-    stack_t on_own_stack;
-    struct sigaction action;
-    memset(&on_own_stack, 0, sizeof on_own_stack);
-    on_own_stack.ss_sp = own_stack;
-    on_own_stack.ss_size = sizeof own_stack;
-    memset(&action, 0, sizeof action);
-    action.sa_sigaction = on_fault;
-    action.sa_flags = SA_SIGINFO | SA_ONSTACK;
-    sigemptyset(&action.sa_mask);
-    return sigaltstack(&on_own_stack, NULL) == 0 && sigaction(SIGSEGV, &action, NULL) == 0;
-}
-
 /* Whether __builtin_dwarf_cfa() is where main's frame begins: by clang for AArch64 it is the frame pointer. */
 #if defined(__aarch64__) && defined(__clang__)
 enum { FRAME_KNOWN = 0 };
@@ -181,46 +68,81 @@ enum { FRAME_KNOWN = 0 };
 enum { FRAME_KNOWN = 1 };
 #endif
 
-static const char *why_not_ready(int count, char **words) {
-    if (count != 1 && !recording && !deeper) {
-        return "usage: recorder [--record DIR | --deep]";
+/* The option of the command line; --record alone has a word behind it. */
+static const option *find_option(int count, char **words) {
+    const char *word = count > 1 ? words[1] : "";
+    size_t number;
+    for (number = 0; number < sizeof options / sizeof *options; number++) {
+        const option *named = &options[number];
+        int length = named->walk == walk_and_record ? 3 : 2;
+        if (strcmp(named->word, word) == 0 && count == (*word == '\0' ? 1 : length)) {
+            return named;
+        }
     }
-    if (recording && !prepare_record(words[2])) {
+    return NULL;
+}
+
+static const char *why_not_ready(char **words) {
+    if (asked == NULL) {
+        return "usage: recorder [--record DIR | --deep | --deeper | --thread | --brink | --null | --modules | --steps]";
+    }
+    if (asked->walk == walk_and_record && !prepare_record(words[2])) {
         return "the folder's name is too long";
     }
     seen.section = own_section();
     if (seen.section.length == 0) {
         return "this program has no .sframe section";
     }
+    if (!find_modules()) {
+        return "this program has too many modules";
+    }
     if (!FRAME_KNOWN) {
         return "for AArch64 clang does not tell where main's frame begins: build it by gcc";
     }
-    return prepare_handler() ? NULL : "the handler cannot be installed";
+    return prepare_handler(asked->walk) && prepare_thread() ? NULL : "the handler cannot be installed";
+}
+
+/* The function of the thread: nothing comes back from what it calls. */
+static void *in_thread(void *unused) {
+    int (*called)(int) = asked->called;
+    int value = asked->value;
+    (void)unused;
+    NOTE_OUTERMOST(asked->outermost);
+    if (prepare_thread()) {
+        NOTE_CALL(asked->outermost - 1, value);
+        value = called(value);
+    }
+    fprintf(stderr, "recorder: there was no fault in the thread, which returned %d\n", value);
+    return NULL;
+}
+
+static void fault_in_thread(void) {
+    pthread_t thread;
+    if (pthread_create(&thread, NULL, in_thread, NULL) == 0) {
+        pthread_join(thread, NULL);
+    }
 }
 
 int main(int count, char **words) {
-    /* main counts from a frame pointer too, since it asks for it: its caller's FP is the word there. */
-    const uint64_t *pointed = (const uint64_t *)__builtin_frame_address(0);
     const char *why_not;
-    recording = count == 3 && strcmp(words[1], "--record") == 0;
-    deeper = count == 2 && strcmp(words[1], "--deep") == 0;
-    in_main = deeper ? DEEP : IN_MAIN;
-    seen.expected[in_main].cfa = (uint64_t)(uintptr_t)__builtin_dwarf_cfa();
-    seen.expected[in_main].fp = *pointed;
-    NOTE_RETURN(in_main);
-    seen.process.mask = signature_bits(pointed);
-    why_not = why_not_ready(count, words);
+    asked = find_option(count, words);
+    seen.process.mask = signature_bits(&why_not);
+    why_not = why_not_ready(words);
     if (why_not != NULL) {
         fprintf(stderr, "recorder: %s\n", why_not);
         return 1;
     }
-    if (deeper) {
-        count = DEEP - 1;
-        NOTE_CALL(DEEP - 1, count);
-        deep(count);
+    seen.innermost = asked->innermost;
+    seen.outermost = asked->outermost;
+    let_last_call(asked->by_last);
+    if (asked->in_thread) {
+        fault_in_thread();
     } else {
-        NOTE_CALL(IN_FIRST, count);
-        first(count);
+        int (*called)(int) = asked->called;
+        NOTE_OUTERMOST(asked->outermost);
+        count = asked->value;
+        NOTE_CALL(asked->outermost - 1, count);
+        called(count);
     }
     fprintf(stderr, "recorder: there was no fault\n");
     return 1;

@@ -37,6 +37,22 @@ impl Folder {
         run_in(&self.0, arguments)
     }
 
+    /// The same under a limit of so many kilobytes for its stack. What is on it beside, the environment above all, is made
+    /// alike.
+    ///
+    /// # Panics
+    /// Where the program does not start, is killed, or the limit cannot be set.
+    pub fn run_with_stack(&self, kilobytes: u64, arguments: &[&str]) -> (String, String) {
+        let direct = program("sframe");
+        let mut limited = Command::new("sh");
+        limited.args(["-c", "ulimit -S -s \"$0\" && exec \"$@\"", &kilobytes.to_string()]);
+        limited.arg(direct.get_program()).args(direct.get_args()).args(arguments);
+        limited.current_dir(&self.0).env_clear().env("PATH", std::env::var_os("PATH").unwrap_or_default());
+        let run = limited.output().expect("sh starts");
+        assert_eq!(run.status.code(), Some(0), "{kilobytes} kB, {arguments:?}: {}", run.status);
+        (text(run.stdout), text(run.stderr))
+    }
+
     /// # Panics
     /// Where the program says anything else to one of its outputs.
     pub fn says(&self, arguments: &[&str], output: &str, error: &str) {

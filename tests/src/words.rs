@@ -1,32 +1,35 @@
 //! What the program `sframe` prints: the words of each number and the lines of each answer, by what the reader says.
 #![forbid(unsafe_code)]
 
+pub mod hints;
 mod listing;
 mod why;
 
 pub use listing::{listing, listing_of};
 pub use why::{why_lookup, why_step};
 
-use crate::reader::USUAL_FRAMES;
+use crate::reader::{function_at, USUAL_FRAMES};
 use crate::reader::{Answer, Asked, AskedOutcome, Base, Ending, Header, Outcome, Place, Registers, Row, Step, Verdict};
 use crate::walk::Walked;
 
-/// The most bytes of a section that the program reads.
-pub const MOST_SECTION_BYTES: usize = 6_291_456;
+/// The most bytes of a file that the program reads, where its stack has room for them. A longer section it refuses with 2.
+pub const MOST_BYTES: usize = 16_777_216;
 
-/// The most bytes of a stack window that the program reads.
-pub const MOST_STACK_BYTES: usize = 1_048_576;
+/// The most bytes of a section and of a stack window that it reads on the usual stack of 8 MiB.
+pub const USUAL_SECTION_BYTES: usize = 6_291_456;
+pub const USUAL_STACK_BYTES: usize = 1_048_576;
 
-/// Each command, and what it takes, in one form or another; what stands in brackets may be left out.
+/// Each command, and what it takes, in one form or another; what stands in brackets may be left out, and what has dots
+/// behind it may be repeated.
 pub const COMMANDS: [(&str, &str); 9] = [
     ("check", "FILE"),
     ("list", "FILE [INDEX]"),
-    ("lookup", "FILE ADDRESS PC"),
-    ("ask", "FILE ADDRESS PC"),
+    ("lookup", "FILE ADDRESS PC..."),
+    ("ask", "FILE ADDRESS PC..."),
     ("why", "FILE ADDRESS PC, or FILE ADDRESS STACK STACK_ADDRESS PC SP FP LR FIRST MASK"),
     ("caller", "FILE ADDRESS STACK STACK_ADDRESS PC SP FP LR FIRST [MASK]"),
     ("trace", "FILE ADDRESS STACK STACK_ADDRESS PC SP FP LR LIMIT [MASK]"),
-    ("help", ""),
+    ("help", "[COMMAND]"),
     ("version", ""),
 ];
 
@@ -122,36 +125,62 @@ fn counted(count: impl Into<u64>, what: &str) -> String {
     format!("{count} {what}{ending}")
 }
 
-/// What `lookup` prints.
-pub fn answer(answer: &Answer) -> String {
+/// What `lookup` prints of a PC in this section.
+pub fn answer(section: &[u8], pc: u64, answer: &Answer) -> String {
     let said = match answer.outcome {
-        Outcome::Found { function, number, row } => found(function, number, &row),
+        Outcome::Found { function, number, row } => found(section, function, number, &row),
         Outcome::SectionRefused { number, index } => section_refused(number, index),
-        Outcome::NoFunction => format!("{}\n", refused(21)),
-        Outcome::Disputed { first, second } => format!("{}, the first two are {first} and {second}\n", refused(22)),
-        Outcome::NoRow { function } => format!("{}, in function {function}\n", refused(23)),
+        Outcome::NoFunction => format!("{}\n{}", refused(21), understood(pc)),
+        Outcome::Disputed { first, second } => {
+            let two = format!("{} and {}", bounded(section, first), bounded(section, second));
+            format!("{}, the first two are {two}\n{}", refused(22), understood(pc))
+        }
+        Outcome::NoRow { function } => refused_at(section, pc, 23, function),
     };
     format!("{said}entries compared: {}\n", answer.compared)
 }
 
-/// What `ask` prints.
-pub fn asked(asked: &Asked) -> String {
+/// What `ask` prints of a PC in this section.
+pub fn asked(section: &[u8], pc: u64, asked: &Asked) -> String {
     let number = asked.refusal();
     let said = match asked.outcome {
-        AskedOutcome::Found { function, number, row } => found(function, number, &row),
+        AskedOutcome::Found { function, number, row } => found(section, function, number, &row),
         AskedOutcome::Unsound(_) | AskedOutcome::Unsorted => format!("{}\n", refused(number)),
         // Other words than a lookup's: other functions may cover the PC.
-        AskedOutcome::NoFunction => "refused: 21, no function that covers the PC was landed on\n".to_string(),
+        AskedOutcome::NoFunction => {
+            format!("refused: 21, no function that covers the PC was landed on\n{}", understood(pc))
+        }
         AskedOutcome::NoRow { function } | AskedOutcome::Damaged { function } => {
-            format!("{}, in function {function}\n", refused(number))
+            refused_at(section, pc, number, function)
         }
     };
     format!("{said}entries compared: {}\n", asked.compared)
 }
 
-fn found(function: u64, number: u64, row: &Row) -> String {
+/// What `lookup` or `ask` prints of several PCs, by what it prints of each.
+pub fn several(answers: &[(u64, String)]) -> String {
+    answers.iter().map(|(pc, answer)| format!("PC {pc:016x}\n{answer}")).collect()
+}
+
+// The PC of a refusal, as it was understood.
+fn understood(pc: u64) -> String {
+    format!("looked up: {pc:016x}\n")
+}
+
+fn refused_at(section: &[u8], pc: u64, number: u64, function: u64) -> String {
+    format!("{}, in function {}\n{}", refused(number), bounded(section, function), understood(pc))
+}
+
+// A function's index with its start, counted from the section's first byte, and its size.
+fn bounded(section: &[u8], function: u64) -> String {
+    let described = function_at(section, function);
+    let sign = if described.start < 0 { '-' } else { '+' };
+    format!("{function} (start {sign}0x{:x}, size {})", described.start.unsigned_abs(), described.size)
+}
+
+fn found(section: &[u8], function: u64, number: u64, row: &Row) -> String {
     let mark = if row.signed { "RA is signed\n" } else { "" };
-    let place = format!("function {function}, row {number}, which starts at {}", row.start);
+    let place = format!("function {}, row {number}, which starts at {}", bounded(section, function), row.start);
     format!("found: {place}\n{}\n{}\n{mark}{}\n", cfa_of(row), ra_of(row), fp_of(row))
 }
 
@@ -203,10 +232,15 @@ fn looked_up(number: u64, pc: u64, marked: bool) -> String {
     }
 }
 
-/// What `trace` prints that began at this PC with this limit; the one in force is told where 0 was given for it.
+/// What `trace` prints that began at this PC with this limit; the one in force is told where 0 was given for it, and one
+/// that is too high as it was understood.
 pub fn trace(pc: u64, limit: u64, walked: &Walked) -> String {
-    let in_force = if limit == 0 { format!("limit in force: {USUAL_FRAMES}\n") } else { String::new() };
-    traced(pc, walked) + &in_force
+    let told = match limit {
+        0 => format!("limit in force: {USUAL_FRAMES}\n"),
+        257.. => format!("limit given: {limit}\n"),
+        _ => String::new(),
+    };
+    traced(pc, walked) + &told
 }
 
 fn traced(pc: u64, walked: &Walked) -> String {
@@ -215,31 +249,39 @@ fn traced(pc: u64, walked: &Walked) -> String {
         Ending::Refused(number @ 41..=43) => format!("{}\n", refused(number)),
         ending => {
             let (frames, number) = (walked.traced.frames, ending.number());
-            let ended = format!("{}frames: {frames}\nended: {number}, {}\n", frames_of(walked), words(number));
-            let sought =
-                walked.frames().last().map_or(looked_up(number, pc, true), |[_, ra, _]| looked_up(number, *ra, false));
-            ended + &sought
+            let ended = format!("{}frames: {frames}\nended: {number}, {}\n", frames_of(pc, walked), words(number));
+            let (next, marked) = walked.frames().last().map_or((pc, true), |[_, ra, _]| (*ra, false));
+            let met = if number < 30 { format!("at PC: {next:016x}\n") } else { String::new() };
+            ended + &met + &looked_up(number, next, marked)
         }
     }
 }
 
-fn frames_of(walked: &Walked) -> String {
-    let line = |(number, [cfa, ra, fp]): (usize, &[u64; 3])| format!("{number:>5}  {cfa:016x}  {ra:016x}  {fp:016x}\n");
-    let lines: String = walked.frames().iter().enumerate().map(line).collect();
-    let head = if lines.is_empty() { String::new() } else { format!("frame  {:<16}  {:<16}  FP\n", "CFA", "RA") };
+// The PC of a frame is the RA of the one before it.
+fn frames_of(pc: u64, walked: &Walked) -> String {
+    let frames = walked.frames();
+    let pcs = [pc].into_iter().chain(frames.iter().map(|[_, ra, _]| *ra));
+    let line = |(number, (pc, [cfa, ra, fp])): (usize, (u64, &[u64; 3]))| {
+        format!("{number:>5}  {pc:016x}  {cfa:016x}  {ra:016x}  {fp:016x}\n")
+    };
+    let lines: String = pcs.zip(frames).enumerate().map(line).collect();
+    let head = format!("frame  {:<16}  {:<16}  {:<16}  FP\n", "PC", "CFA", "RA");
+    if lines.is_empty() {
+        return lines;
+    }
     head + &lines
 }
 
 /// What the program says to standard error, of a wrong command line above all.
 pub mod wrong {
-    use super::{COMMANDS, DECIMAL};
+    use super::{COMMANDS, DECIMAL, MOST_BYTES};
 
     pub fn no_command() -> String {
         "sframe: no command; 'sframe help' lists them\n".to_string()
     }
 
     pub fn unknown(command: &str) -> String {
-        format!("sframe: '{command}' is no command; 'sframe help' lists them\n")
+        format!("sframe: '{}' is no command; 'sframe help' lists them\n", visible(command.as_bytes()))
     }
 
     /// # Panics
@@ -252,7 +294,8 @@ pub mod wrong {
 
     pub fn number(name: &str, given: &str) -> String {
         let (kind, digits) = if DECIMAL.contains(&name) { ("decimal", 19) } else { ("hexadecimal", 16) };
-        format!("sframe: {name} is not a {kind} number of 1 to {digits} digits: '{given}'\n")
+        let asked = format!("a {kind} number of 1 to {digits} digits, leading zeros aside");
+        format!("sframe: {name} is not {asked}: '{}'\n", visible(given.as_bytes()))
     }
 
     pub fn refused_section() -> String {
@@ -265,15 +308,47 @@ pub mod wrong {
     }
 
     pub fn missing(file: &str) -> String {
-        format!("sframe: {file}: No such file or directory\n")
+        format!("sframe: {}: No such file or directory\n", visible(file.as_bytes()))
     }
 
     pub fn directory(file: &str) -> String {
         format!("sframe: {file}: Is a directory\n")
     }
 
+    /// Of a file that is longer than the program reads, on a stack that has room for so many bytes.
     pub fn too_long(file: &str, most: usize) -> String {
-        format!("sframe: {file}: more than {most} bytes, the most that this program reads\n")
+        let why = match most {
+            MOST_BYTES => "the most that this program reads",
+            _ => "for which the stack limit leaves no room: 'ulimit -s' raises it",
+        };
+        format!("sframe: {file}: more than {most} bytes, {why}\n")
+    }
+
+    /// Of a stack limit of so many bytes.
+    pub fn no_room(limit: u64) -> String {
+        format!("sframe: the stack limit of {limit} bytes leaves no room to read a file: 'ulimit -s' raises it\n")
+    }
+
+    pub fn both_input() -> String {
+        "sframe: FILE and STACK cannot both be standard input\n".to_string()
+    }
+
+    pub fn unwritten(why: &str) -> String {
+        format!("sframe: standard output: {why}\n")
+    }
+
+    pub fn closed() -> String {
+        "sframe: standard output is closed\n".to_string()
+    }
+
+    /// An argument as it is echoed: what is not a printable character of ASCII by its number, and \ twice.
+    pub fn visible(given: &[u8]) -> String {
+        let byte = |byte: &u8| match byte {
+            b'\\' => "\\\\".to_string(),
+            b' '..=b'~' => char::from(*byte).to_string(),
+            _ => format!("\\x{byte:02x}"),
+        };
+        given.iter().map(byte).collect()
     }
 }
 
@@ -307,48 +382,62 @@ mod tests {
 
     #[test]
     fn a_row_is_told_by_its_places() {
-        let framed =
-            "found: function 0, row 1, which starts at 4\nCFA is FP + 16\nRA is at CFA - 8\nFP is at CFA - 16\n";
-        let told = answer(&reader::lookup(&S, 0x40_0000, 0x40_1004));
+        let framed = "found: function 0 (start +0x1000, size 32), row 1, which starts at 4\n\
+                      CFA is FP + 16\nRA is at CFA - 8\nFP is at CFA - 16\n";
+        let told = answer(&S, 0x40_1004, &reader::lookup(&S, 0x40_0000, 0x40_1004));
         assert_eq!(told, format!("{framed}entries compared: 2\n"));
         let row =
             Row { start: 7, base: Base::Sp, cfa_offset: 0, ra: Place::Register, fp: Place::Register, signed: true };
-        let outcome = Outcome::Found { function: 12, number: 3, row };
-        let in_registers = "found: function 12, row 3, which starts at 7\nCFA is SP + 0\nRA is in LR\nRA is signed\n";
-        let told = answer(&Answer { outcome, compared: 9 });
+        let outcome = Outcome::Found { function: 1, number: 3, row };
+        let in_registers = "found: function 1 (start +0x1040, size 16), row 3, which starts at 7\n\
+                            CFA is SP + 0\nRA is in LR\nRA is signed\n";
+        let told = answer(&S, 0x40_1047, &Answer { outcome, compared: 9 });
         assert_eq!(told, format!("{in_registers}FP is unchanged\nentries compared: 9\n"));
         assert_eq!(signed(i64::from(i32::MIN)), "- 2147483648");
     }
 
     #[test]
     fn a_refused_lookup_names_its_functions() {
-        let told = |outcome| answer(&Answer { outcome, compared: 2 });
-        let none = "refused: 21, no function covers the PC\nentries compared: 2\n";
-        assert_eq!(told(Outcome::NoFunction), none);
-        let two = "refused: 22, two or more functions cover the PC, the first two are 0 and 1\nentries compared: 2\n";
+        let told = |outcome| answer(&S, 0x40_1020, &Answer { outcome, compared: 2 });
+        let behind = "looked up: 0000000000401020\nentries compared: 2\n";
+        assert_eq!(told(Outcome::NoFunction), format!("refused: 21, no function covers the PC\n{behind}"));
+        let two = "refused: 22, two or more functions cover the PC, the first two are ";
+        let two = format!("{two}0 (start +0x1000, size 32) and 1 (start +0x1040, size 16)\n{behind}");
         assert_eq!(told(Outcome::Disputed { first: 0, second: 1 }), two);
-        let no_row =
-            "refused: 23, no row of the function starts at or below the PC, in function 0\nentries compared: 2\n";
-        assert_eq!(told(Outcome::NoRow { function: 0 }), no_row);
+        let no_row = "refused: 23, no row of the function starts at or below the PC, in function 0";
+        assert_eq!(told(Outcome::NoRow { function: 0 }), format!("{no_row} (start +0x1000, size 32)\n{behind}"));
     }
 
     #[test]
     fn what_is_asked_is_told_as_a_lookup_is() {
-        let told = |outcome, compared| asked(&Asked { outcome, compared });
+        let told = |outcome, compared| asked(&S, 0x40_1020, &Asked { outcome, compared });
         for pc in [0x40_1003, 0x40_1004, 0x40_1040] {
-            assert_eq!(asked(&reader::ask(&S, 0x40_0000, pc)), answer(&reader::lookup(&S, 0x40_0000, pc)));
+            let looked = answer(&S, pc, &reader::lookup(&S, 0x40_0000, pc));
+            assert_eq!(asked(&S, pc, &reader::ask(&S, 0x40_0000, pc)), looked);
         }
-        let no_row = answer(&Answer { outcome: Outcome::NoRow { function: 5 }, compared: 4 });
-        assert_eq!(told(AskedOutcome::NoRow { function: 5 }, 4), no_row);
+        let no_row = answer(&S, 0x40_1020, &Answer { outcome: Outcome::NoRow { function: 1 }, compared: 4 });
+        assert_eq!(told(AskedOutcome::NoRow { function: 1 }, 4), no_row);
         let short = "refused: 1, fewer than 28 bytes\nentries compared: 0\n";
         assert_eq!(told(AskedOutcome::Unsound(1), 0), short);
-        let none = "refused: 21, no function that covers the PC was landed on\nentries compared: 2\n";
-        assert_eq!(told(AskedOutcome::NoFunction, 2), none);
-        let damaged = "the function landed on covers the PC and breaks one of the rules 9 to 13, in function 3";
-        let damaged = format!("refused: 44, {damaged}\nentries compared: 12\n");
-        assert_eq!(told(AskedOutcome::Damaged { function: 3 }, 12), damaged);
+        let none = "refused: 21, no function that covers the PC was landed on\nlooked up: 0000000000401020\n";
+        assert_eq!(told(AskedOutcome::NoFunction, 2), format!("{none}entries compared: 2\n"));
+        let damaged = "the function landed on covers the PC and breaks one of the rules 9 to 13, in function 0";
+        let damaged = format!("refused: 44, {damaged} (start +0x1000, size 32)\nlooked up: 0000000000401020\n");
+        assert_eq!(told(AskedOutcome::Damaged { function: 0 }, 12), format!("{damaged}entries compared: 12\n"));
         let unsorted = "the sorted flag is not set, and only a sorted section can be asked";
         assert_eq!(told(AskedOutcome::Unsorted, 0), format!("refused: 45, {unsorted}\nentries compared: 0\n"));
+    }
+
+    #[test]
+    fn several_answers_are_told_by_their_pcs() {
+        let answers = [(0x40_1003, "one\n".to_string()), (1, "two\nlines\n".to_string())];
+        assert_eq!(several(&answers), "PC 0000000000401003\none\nPC 0000000000000001\ntwo\nlines\n");
+    }
+
+    #[test]
+    fn what_a_terminal_might_obey_is_made_visible() {
+        assert_eq!(wrong::visible(b"a \\~\x1b[1m\n\xc3\x7f"), "a \\\\~\\x1b[1m\\x0a\\xc3\\x7f");
+        assert_eq!(wrong::missing("\u{1b}"), "sframe: \\x1b: No such file or directory\n");
     }
 
     #[test]
@@ -357,32 +446,33 @@ mod tests {
         let (k10, k12) = (&cases[0].walks[0].1, &cases[0].walks[2].1);
         let caller = "caller:\nPC  0000000000401008\nSP  0000000000007008\nFP  0000000000007030\n";
         assert_eq!(step(&k10.step), format!("{caller}LR  0000000000000000\n"));
-        let first = "    0  0000000000007008  0000000000401008  0000000000007030\n";
-        let second = "    1  0000000000007040  0000000000000000  0000000000000000\n";
-        let head = "frame  CFA               RA                FP\n";
+        let first = "    0  0000000000401044  0000000000007008  0000000000401008  0000000000007030\n";
+        let second = "    1  0000000000401008  0000000000007040  0000000000000000  0000000000000000\n";
+        let head = "frame  PC                CFA               RA                FP\n";
         let ended = "frames: 2\nended: 30, RA is 0: the outermost frame\n";
         assert_eq!(trace(0x40_1044, 2, k10), format!("{head}{first}{second}{ended}"));
         assert_eq!(trace(0x40_1044, 0, k10), format!("{head}{first}{second}{ended}limit in force: 128\n"));
         let ended = "frames: 1\nended: 28, a needed word is not wholly inside the stack window\n";
-        assert_eq!(trace(0x40_1044, 2, k12), format!("{head}{first}{ended}"));
+        assert_eq!(trace(0x40_1044, 2, k12), format!("{head}{first}{ended}at PC: 0000000000401008\n"));
     }
 
     #[test]
     fn wrong_arguments_are_told_by_their_names() {
         assert_eq!(wrong::count("list"), "sframe: 'list' takes FILE [INDEX]\n");
-        assert_eq!(wrong::count("ask"), "sframe: 'ask' takes FILE ADDRESS PC\n");
-        assert_eq!(wrong::count("help"), "sframe: 'help' takes no arguments\n");
+        assert_eq!(wrong::count("ask"), "sframe: 'ask' takes FILE ADDRESS PC...\n");
+        assert_eq!(wrong::count("help"), "sframe: 'help' takes [COMMAND]\n");
+        assert_eq!(wrong::count("version"), "sframe: 'version' takes no arguments\n");
         let walk = "FILE ADDRESS STACK STACK_ADDRESS PC SP FP LR";
         assert_eq!(wrong::count("why"), format!("sframe: 'why' takes FILE ADDRESS PC, or {walk} FIRST MASK\n"));
         assert_eq!(wrong::count("caller"), format!("sframe: 'caller' takes {walk} FIRST [MASK]\n"));
         assert_eq!(wrong::count("trace"), format!("sframe: 'trace' takes {walk} LIMIT [MASK]\n"));
-        let address = "sframe: ADDRESS is not a hexadecimal number of 1 to 16 digits: 'xyz'\n";
+        let address = "sframe: ADDRESS is not a hexadecimal number of 1 to 16 digits, leading zeros aside: 'xyz'\n";
         assert_eq!(wrong::number("ADDRESS", "xyz"), address);
-        let mask = "sframe: MASK is not a hexadecimal number of 1 to 16 digits: '-1'\n";
+        let mask = "sframe: MASK is not a hexadecimal number of 1 to 16 digits, leading zeros aside: '-1'\n";
         assert_eq!(wrong::number("MASK", "-1"), mask);
-        let limit = "sframe: LIMIT is not a decimal number of 1 to 19 digits: '0x10'\n";
+        let limit = "sframe: LIMIT is not a decimal number of 1 to 19 digits, leading zeros aside: '0x10'\n";
         assert_eq!(wrong::number("LIMIT", "0x10"), limit);
-        let index = "sframe: INDEX is not a decimal number of 1 to 19 digits: ''\n";
+        let index = "sframe: INDEX is not a decimal number of 1 to 19 digits, leading zeros aside: ''\n";
         assert_eq!(wrong::number("INDEX", ""), index);
         assert_eq!(wrong::no_function(12, 2), "sframe: there is no function 12: the section has 2\n");
     }
@@ -392,7 +482,8 @@ mod tests {
         let walk = &all()[0].walks[0].0;
         let old = walk.registers;
         let told = |ending| trace(old.pc, 2, &walk.stated(Step::Refused { old, number: 21 }, &[], ending));
-        let none = "frames: 0\nended: 21, no function covers the PC\nlooked up: 0000000000401044\n";
+        let none = "frames: 0\nended: 21, no function covers the PC\n";
+        let none = format!("{none}at PC: 0000000000401044\nlooked up: 0000000000401044\n");
         assert_eq!(told(Ending::Refused(21)), none);
         assert_eq!(told(Ending::Refused(42)), "refused: 42, the limit is above 256\n");
         let unsound = "refused: 10, an entry has repeated blocks of size 0, in function 4\n";
@@ -415,7 +506,7 @@ mod tests {
         assert_eq!(refused(21, 0, 0), format!("{none}nothing, since PC is 0 without the first-frame mark\n"));
         let frames = [[0x7008, 0x40_1008, 0x7030]];
         let told = trace(old.pc, 1, &walk.stated(walked.step, &frames, Ending::Refused(23)));
-        let ended = "ended: 23, no row of the function starts at or below the PC\nlooked up: 0000000000401007\n";
-        assert!(told.ends_with(ended), "{told}");
+        let ended = "ended: 23, no row of the function starts at or below the PC\nat PC: 0000000000401008\n";
+        assert!(told.ends_with(&format!("{ended}looked up: 0000000000401007\n")), "{told}");
     }
 }

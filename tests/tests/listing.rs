@@ -11,13 +11,14 @@ use suntimpani_tests::maker::{self, Machine, Section};
 use suntimpani_tests::program::{counted, on_two_threads, Folder};
 use suntimpani_tests::reader::{self, Base, Block, Function, Header, Place, Row, Verdict};
 use suntimpani_tests::stream::turn;
-use suntimpani_tests::words::{self, wrong};
+use suntimpani_tests::words::{self, hints, wrong};
 
 // The whole section, in a file of its name.
 fn list(folder: &Folder, name: &str, section: &[u8]) {
     folder.put(name, section);
     let refused = reader::check(section) != Verdict::Accepted;
     let error = if refused { wrong::refused_section() } else { String::new() };
+    let error = hints::of_file(name, section) + &error;
     folder.says(&["list", name], &words::listing(section), &error);
 }
 
@@ -31,6 +32,7 @@ fn list_one(folder: &Folder, name: &str, section: &[u8], index: u64) {
         (Verdict::Accepted, _) => String::new(),
         (Verdict::Refused { .. }, _) => wrong::refused_section(),
     };
+    let error = hints::of_file(name, section) + &error;
     folder.says(&["list", name, &counted(index)], &words::listing_of(section, index), &error);
 }
 
@@ -177,10 +179,10 @@ fn the_leftmost_fault_is_told() {
     folder.refuses(&["list", "nofile", "xyz", "1"], "sframe: 'list' takes FILE [INDEX]\n");
     folder.refuses(&["list", "nofile", "xyz"], &wrong::missing("nofile"));
     for file in ["S", "cut"] {
-        let index = "sframe: INDEX is not a decimal number of 1 to 19 digits: '0x1'\n";
+        let index = "sframe: INDEX is not a decimal number of 1 to 19 digits, leading zeros aside: '0x1'\n";
         folder.refuses(&["list", file, "0x1"], index);
-        let digits = wrong::number("INDEX", "00000000000000000001");
-        folder.refuses(&["list", file, "00000000000000000001"], &digits);
+        let digits = wrong::number("INDEX", "12345678901234567890");
+        folder.refuses(&["list", file, "12345678901234567890"], &digits);
     }
 }
 

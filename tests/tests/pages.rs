@@ -3,6 +3,10 @@
 //!
 //! docs/SPECIFICATION.md has numbered rules, and every number that a call gives at the one rule under which it is given. Its
 //! table of numbers, its rules, docs/REFUSALS.md and the stored cases must agree, and a rule that is cited must be there.
+//!
+//! Every link of a page leads to a file or a folder of the repository, and to a heading where it names one. A name or a path
+//! that docs/DECISIONS.md or docs/ARCHITECTURE.md has in backquotes is somewhere in the repository. The map of the crates,
+//! in docs/ARCHITECTURE.md a picture and a table, is that of crates.txt.
 
 use std::collections::{BTreeMap, BTreeSet};
 use std::fs;
@@ -506,4 +510,470 @@ fn a_rule_that_is_cited_and_is_not_there_is_found() {
         places_cited("[`docs/SPECIFICATION.md`](docs/SPECIFICATION.md) 4.1 says so, GNU ld 2.44 does not"),
         ["4.1"]
     );
+}
+
+// ---- links
+
+/// What pages speak of: every path of the repository, and the text of every page by its path.
+struct Repository {
+    paths: BTreeSet<String>,
+    pages: BTreeMap<String, String>,
+}
+
+/// Folders of the repository that git does not keep.
+const NOT_KEPT: [&str; 2] = [".git", "target"];
+
+/// Every path below a folder, files and folders; that of the repository itself is empty.
+fn paths_below(below: &str, found: &mut BTreeSet<String>) {
+    for entry in fs::read_dir(in_repository(below)).expect("a folder of the repository") {
+        let entry = entry.expect("an entry");
+        let name = entry.file_name().into_string().expect("a name");
+        if NOT_KEPT.contains(&name.as_str()) {
+            continue;
+        }
+        let path = if below.is_empty() { name } else { format!("{below}/{name}") };
+        if entry.path().is_dir() {
+            paths_below(&path, found);
+        }
+        found.insert(path);
+    }
+}
+
+fn whole_repository() -> Repository {
+    let mut paths = BTreeSet::from([String::new()]);
+    paths_below("", &mut paths);
+    let pages = paths.iter().filter(|path| path.ends_with(".md")).map(|path| (path.clone(), page(path))).collect();
+    Repository { paths, pages }
+}
+
+/// The lines of a page that do not stand in a fenced block.
+fn unfenced(page: &str) -> impl Iterator<Item = &str> {
+    let lines = page.lines().scan(false, |fenced, line| {
+        let is_fence = line.trim_start().starts_with("```");
+        *fenced ^= is_fence;
+        Some((!*fenced && !is_fence).then_some(line))
+    });
+    lines.flatten()
+}
+
+/// A line without what stands in backquotes. One that has no other to go with it is a sign like any other.
+fn outside_code(line: &str) -> String {
+    let parts: Vec<&str> = line.split('`').collect();
+    let is_text = |at: usize| at.is_multiple_of(2) || at + 1 == parts.len();
+    parts.iter().enumerate().filter(|(at, _)| is_text(*at)).map(|(_, part)| *part).collect()
+}
+
+/// Where the links of a page lead, as they are written. What stands in backquotes is no link, but may be a link's text.
+fn links_of(page: &str) -> Vec<String> {
+    let links = |line: String| -> Vec<String> {
+        let behind = line.split("](").skip(1).filter_map(|rest| rest.split_once(')'));
+        behind.map(|(link, _)| link.to_string()).collect()
+    };
+    unfenced(page).map(outside_code).flat_map(links).collect()
+}
+
+/// The anchors of a page's headings, by GitHub's rule: in lower case, without punctuation, blanks as hyphens; one that is
+/// there already gets a number behind it.
+fn anchors_of(page: &str) -> BTreeSet<String> {
+    let mut anchors = BTreeSet::new();
+    let titles = unfenced(page).filter(|line| line.starts_with('#')).map(|line| line.trim_start_matches('#'));
+    for title in titles.filter_map(|title| title.strip_prefix(' ')) {
+        let kept = title.trim().chars().filter(|&sign| sign.is_alphanumeric() || [' ', '-', '_'].contains(&sign));
+        let plain = kept.collect::<String>().to_lowercase().replace(' ', "-");
+        let numbered = (1..).map(|number| format!("{plain}-{number}"));
+        let free = std::iter::once(plain.clone()).chain(numbered).find(|anchor| !anchors.contains(anchor));
+        anchors.extend(free);
+    }
+    anchors
+}
+
+/// The path that a link leads to from a page, or nothing where it leaves the repository.
+fn led_to(from: &str, path: &str) -> Option<String> {
+    if path.is_empty() {
+        return Some(from.to_string());
+    }
+    let mut parts: Vec<&str> = from.split('/').collect();
+    parts.pop();
+    for part in path.split('/') {
+        match part {
+            "" | "." => {}
+            ".." => {
+                parts.pop()?;
+            }
+            part => parts.push(part),
+        }
+    }
+    Some(parts.join("/"))
+}
+
+/// What is wrong with a link of a page.
+fn link_fault(from: &str, link: &str, repository: &Repository) -> Option<String> {
+    if link.contains("://") || link.starts_with("mailto:") {
+        return None;
+    }
+    let (path, anchor) = link.split_once('#').map_or((link, None), |(path, anchor)| (path, Some(anchor)));
+    let Some(path) = led_to(from, path) else {
+        return Some(format!("{from}: {link} leads out of the repository"));
+    };
+    if !repository.paths.contains(&path) {
+        return Some(format!("{from}: {link} leads to {path}, which is not there"));
+    }
+    let anchor = anchor?;
+    match repository.pages.get(&path) {
+        None => Some(format!("{from}: {link} names a heading, and {path} is no page")),
+        Some(page) if anchors_of(page).contains(anchor) => None,
+        Some(_) => Some(format!("{from}: {path} has no heading #{anchor}")),
+    }
+}
+
+fn link_faults(repository: &Repository) -> Vec<String> {
+    let of_page = |(from, page): (&String, &String)| -> Vec<String> {
+        links_of(page).iter().filter_map(|link| link_fault(from, link, repository)).collect()
+    };
+    repository.pages.iter().flat_map(of_page).collect()
+}
+
+#[test]
+fn every_link_leads_to_what_is_there() {
+    let repository = whole_repository();
+    assert_eq!(link_faults(&repository), [""; 0]);
+    let links = repository.pages.values().map(|page| links_of(page).len()).sum::<usize>();
+    assert!(repository.pages.len() >= 25 && links >= 100, "is the form of a link still read?");
+}
+
+#[test]
+fn readme_links_to_every_page_of_docs() {
+    let readme = links_of(&page("README.md"));
+    let pages = whole_repository().pages.into_keys().filter(|path| path.starts_with("docs/"));
+    let unlinked = |path: &String| !path.starts_with("docs/landings/") && !readme.contains(path);
+    assert_eq!(pages.filter(unlinked).collect::<Vec<_>>(), [""; 0]);
+    assert!(readme.contains(&"docs/landings".to_string()));
+}
+
+/// A small repository of two pages, a folder and a file.
+fn small_repository() -> Repository {
+    let first = "# A page\n\n[`code`](docs/second.md), [here](#a-page), [there](docs/second.md#more-of-it) and [a file](src/lib.rt).\n";
+    let second = "# Second\n\n## More of it\n\n[back](../first.md#a-page), [a folder](../src/) and [all](..); \
+                  [elsewhere](https://example.org/first.md#nothing).\n\n```text\n# No heading [x](no_link)\n```\n\n`[y](no_link)`\n";
+    let pages = [("first.md", first), ("docs/second.md", second)];
+    let paths = ["", "docs", "docs/second.md", "first.md", "src", "src/lib.rt"];
+    Repository {
+        paths: paths.map(str::to_string).into(),
+        pages: pages.map(|(path, text)| (path.to_string(), text.to_string())).into(),
+    }
+}
+
+/// What is wrong with its links after a change of a part of a page.
+fn link_faults_after(path: &str, part: &str, other: &str) -> Vec<String> {
+    let mut repository = small_repository();
+    let page = repository.pages.get_mut(path).expect("a page");
+    assert!(page.contains(part), "{part} is not in {path}");
+    *page = page.replace(part, other);
+    link_faults(&repository)
+}
+
+#[test]
+fn a_link_is_read() {
+    let repository = small_repository();
+    assert_eq!(links_of(&repository.pages["first.md"]).len(), 4);
+    assert_eq!(links_of(&repository.pages["docs/second.md"]).len(), 4);
+    assert_eq!(links_of("`a` [b](c), a sign ` alone, [`d`](e) and [f](g)"), ["c", "e", "g"]);
+    assert_eq!(link_faults(&repository), [""; 0]);
+}
+
+#[test]
+fn a_link_to_nothing_is_found() {
+    let gone = ["first.md: docs/third.md leads to docs/third.md, which is not there"];
+    assert_eq!(link_faults_after("first.md", "(docs/second.md)", "(docs/third.md)"), gone);
+    let gone = ["docs/second.md: first.md#a-page leads to docs/first.md, which is not there"];
+    assert_eq!(link_faults_after("docs/second.md", "(../first.md#", "(first.md#"), gone);
+    let out = ["docs/second.md: ../../src/ leads out of the repository"];
+    assert_eq!(link_faults_after("docs/second.md", "(../src/)", "(../../src/)"), out);
+}
+
+#[test]
+fn an_anchor_without_a_heading_is_found() {
+    let lost = ["first.md: docs/second.md has no heading #more-of-it"];
+    assert_eq!(link_faults_after("docs/second.md", "## More of it", "## Less of it"), lost);
+    assert_eq!(link_faults_after("docs/second.md", "## More of it", "## More of it?"), [""; 0]);
+    let cased = ["first.md: first.md has no heading #A-page"];
+    assert_eq!(link_faults_after("first.md", "(#a-page)", "(#A-page)"), cased);
+    let fenced = ["first.md: docs/second.md has no heading #no-heading-xno_link"];
+    assert_eq!(link_faults_after("first.md", "#more-of-it", "#no-heading-xno_link"), fenced);
+    let no_page = ["first.md: src/lib.rt#top names a heading, and src/lib.rt is no page"];
+    assert_eq!(link_faults_after("first.md", "(src/lib.rt)", "(src/lib.rt#top)"), no_page);
+}
+
+#[test]
+fn anchors_are_those_of_github() {
+    let page =
+        "# What `sframe why` prints\n## 0.5.1, 2026-11-17\n### The insurer's five questions\n## Twice\n### Twice\n\
+                #No heading\n    # No heading either\n## 27 beside 28: a_b - c\n";
+    let anchors = [
+        "051-2026-11-17",
+        "27-beside-28-a_b---c",
+        "the-insurers-five-questions",
+        "twice",
+        "twice-1",
+        "what-sframe-why-prints",
+    ];
+    assert_eq!(anchors_of(page), anchors.map(str::to_string).into());
+}
+
+// ---- names and paths in backquotes
+
+/// Where the names of a page are looked for: the words of all sources, the names of files, and the stored cases.
+struct Known {
+    words: BTreeSet<String>,
+    paths: BTreeSet<String>,
+    cases: Vec<String>,
+}
+
+/// The endings of the files whose words are names.
+const SOURCES: [&str; 7] = [".antt", ".rt", ".edit", ".rs", ".c", ".h", ".py"];
+
+fn words_of(text: &str) -> impl Iterator<Item = &str> {
+    text.split(|sign: char| !(sign.is_alphanumeric() || sign == '-' || sign == '_'))
+}
+
+fn all_known() -> Known {
+    let paths = whole_repository().paths;
+    let mut words = BTreeSet::new();
+    // This file has made-up names, for its own tests.
+    let is_source = |path: &str| SOURCES.iter().any(|ending| path.ends_with(ending)) && path != "tests/tests/pages.rs";
+    for path in &paths {
+        words.extend(words_of(path).map(str::to_string));
+        if is_source(path) {
+            words.extend(words_of(&page(path)).map(str::to_string));
+        }
+    }
+    let cases = cases::all().iter().map(|case| case.name.clone()).collect();
+    Known { words, paths, cases }
+}
+
+/// Whether a path is that of a pattern, in which "*" stands for any one part.
+fn is_of(pattern: &str, path: &str) -> bool {
+    let (pattern, path) = (pattern.split('/').collect::<Vec<_>>(), path.split('/').collect::<Vec<_>>());
+    pattern.len() == path.len() && pattern.iter().zip(path).all(|(part, name)| *part == "*" || *part == name)
+}
+
+/// Whether something of the repository has this path: from its first folder on, or from that of a crate.
+fn has_path(path: &str, known: &Known) -> bool {
+    let path = path.trim_end_matches('/');
+    let in_crate = format!("crates/*/{path}");
+    known.paths.iter().any(|other| is_of(path, other) || is_of(&in_crate, other))
+}
+
+/// Whether a word in backquotes is somewhere. One that is no name, no case and no path, as a command, is not looked for.
+fn is_known(word: &str, known: &Known) -> bool {
+    let is_sign = |sign: char| sign.is_alphanumeric() || "-_./*:".contains(sign);
+    if !word.chars().all(is_sign) || word.starts_with('-') || word.contains("..") {
+        return true;
+    }
+    if word.starts_with("ok_") || word.starts_with(|sign: char| sign.is_ascii_digit()) {
+        return match word.strip_suffix('*') {
+            Some(begin) => known.cases.iter().any(|case| case.starts_with(begin)),
+            None => known.cases.iter().any(|case| case == word),
+        };
+    }
+    if word.contains('/') {
+        return word.starts_with("target/") || has_path(word, known);
+    }
+    if word.contains('.') {
+        return known.paths.iter().any(|path| path.rsplit('/').next() == Some(word));
+    }
+    word.split("::").all(|part| known.words.contains(part))
+}
+
+fn unknown_in(page: &str, known: &Known) -> Vec<String> {
+    let in_backquotes = |line| quoted(line).into_iter().map(|(_, word)| word).collect::<Vec<_>>();
+    let words = unfenced(page).flat_map(in_backquotes);
+    words.filter(|word| !is_known(word, known)).map(|word| format!("{word} is nowhere")).collect()
+}
+
+#[test]
+fn names_of_decisions_and_of_the_map_are_somewhere() {
+    let known = all_known();
+    for (path, least) in [("docs/DECISIONS.md", 500), ("docs/ARCHITECTURE.md", 150)] {
+        let text = page(path);
+        assert_eq!(unknown_in(&text, &known), [""; 0], "{path}");
+        let seen = unfenced(&text).map(|line| quoted(line).len()).sum::<usize>();
+        assert!(seen >= least, "{path}: only {seen} names were seen");
+    }
+}
+
+#[test]
+fn a_name_that_is_nowhere_is_found() {
+    let known = Known {
+        words: words_of("unfoldable pub callerSp : Registers\nhalving-finds-covering = refl Step Caller")
+            .map(str::to_string)
+            .collect(),
+        paths: [
+            "LICENSE",
+            "crates/trace/specs/computed/Trace.antt",
+            "crates/trace/specs/computed",
+            "crates/ask/must-fail",
+        ]
+        .map(str::to_string)
+        .into(),
+        cases: ["ok_find_0_a", "14_size_0"].map(str::to_string).into(),
+    };
+    let there = "`callerSp`, `halving-finds-covering`, `Step::Caller`, `crates/trace/specs/computed`, `specs/computed/`, \
+                 `crates/*/must-fail`, `Trace.antt`, `ok_find_0_*`, `14_size_0`, `make run`, `looked up: ..`, `-O2`, `target/bin`";
+    assert_eq!(unknown_in(there, &known), [""; 0]);
+    assert_eq!(unknown_in("```text\n`gone`\n```\n", &known), [""; 0]);
+    let gone = ["callerSP", "halving", "Step::Other", "crates/trace/specs/Trace.antt", "specs/inner", "crates/*/src"];
+    let more = ["Walk.antt", "ok_find_1_*", "14_size_1", "14_size", "bin/sframe"];
+    for word in gone.into_iter().chain(more) {
+        assert_eq!(unknown_in(&format!("It is so: `{word}`."), &known), [format!("{word} is nowhere")]);
+    }
+}
+
+// ---- the map of the crates
+
+/// What each crate knows.
+type Knows = BTreeMap<String, BTreeSet<String>>;
+
+/// The toolchain's own crates, which the picture leaves out.
+const TOOLCHAIN: [&str; 3] = ["io", "os", "libc"];
+
+/// "NAME: the crates that it knows", all of them.
+fn listed_of(text: &str) -> Knows {
+    let lines = text.lines().filter(|line| !line.starts_with('#')).filter_map(|line| line.split_once(':'));
+    lines.map(|(name, known)| (name.to_string(), known.split_whitespace().map(str::to_string).collect())).collect()
+}
+
+/// What a crate knows directly, and what those know, and so on.
+fn with_all(mut knows: Knows) -> Knows {
+    loop {
+        let before = knows.clone();
+        for known in knows.values_mut() {
+            let further: Vec<String> = known.iter().filter_map(|name| before.get(name)).flatten().cloned().collect();
+            known.extend(further);
+        }
+        if knows == before {
+            return knows;
+        }
+    }
+}
+
+/// The names of a line of the picture, each with its place.
+fn placed(line: &str) -> Vec<(usize, &str)> {
+    let mut next = 0;
+    let words = line.split(' ').map(|word| {
+        let place = next;
+        next += word.len() + 1;
+        (place, word)
+    });
+    words.filter(|(_, word)| word.starts_with(|sign: char| sign.is_ascii_alphabetic())).collect()
+}
+
+/// The picture: along its top the crates that join several; below, each crate right of the one that it hangs from, with an
+/// "o" in the columns of those that know it.
+fn drawn_of(page: &str) -> Knows {
+    let picture = page.split("```text\n").nth(1).and_then(|rest| rest.split_once("```")).expect("a picture").0;
+    let mut lines = picture.lines();
+    let columns = placed(lines.next().expect("the top of the picture"));
+    let mut knows: Knows = columns.iter().map(|(_, name)| (name.to_string(), BTreeSet::new())).collect();
+    let mut above: Vec<(usize, &str)> = Vec::new();
+    for line in lines {
+        let Some(&(place, name)) = placed(line).first().filter(|(place, _)| *place < columns[0].0) else { continue };
+        above.retain(|(other, _)| *other < place);
+        let known = knows.entry(name.to_string()).or_default();
+        known.extend(above.last().map(|(_, other)| other.to_string()));
+        above.push((place, name));
+        for (_, joining) in columns.iter().filter(|(column, _)| line.as_bytes().get(*column) == Some(&b'o')) {
+            knows.entry(joining.to_string()).or_default().insert(name.to_string());
+        }
+    }
+    knows
+}
+
+/// The table: "| `section` | what it is for | `numbers` |".
+fn tabled_of(page: &str) -> Knows {
+    let row = |line| match cells(line)[..] {
+        [name, _, known, ""] if name.starts_with('`') => {
+            let known = quoted(known).into_iter().map(|(_, word)| word.to_string()).collect();
+            Some((name.trim_matches('`').to_string(), known))
+        }
+        _ => None,
+    };
+    page.lines().filter_map(row).collect()
+}
+
+/// Where the picture and the table of a page are not crates.txt.
+fn map_faults(page: &str, listed: &str) -> Vec<String> {
+    let listed = listed_of(listed);
+    let mut ours = listed.clone();
+    ours.values_mut().for_each(|known| known.retain(|name| !TOOLCHAIN.contains(&name.as_str())));
+    let mut faults = Vec::new();
+    for (what, said, listed) in [("picture", drawn_of(page), ours), ("table", tabled_of(page), listed)] {
+        let said = with_all(said);
+        let names: BTreeSet<&String> = said.keys().chain(listed.keys()).collect();
+        let differs = names.into_iter().filter(|name| said.get(*name) != listed.get(*name));
+        faults.extend(differs.map(|name| format!("{name}: the {what} knows {:?}", said.get(name))));
+    }
+    faults
+}
+
+#[test]
+fn the_map_is_that_of_crates_txt() {
+    let (page, listed) = (page("docs/ARCHITECTURE.md"), page("crates.txt"));
+    assert_eq!(map_faults(&page, &listed), [""; 0]);
+    assert!(listed_of(&listed).len() >= 18, "is crates.txt still read?");
+}
+
+const LISTED: &str = "# NAME: crates\nlow:\nmiddle: low\nhigh: low middle\nshown: low middle high io\nalone: low\n";
+const MAP: &str = "
+```text
+             shown  alone
+             |      |
+low ---------|------o
+|            |
++- middle    |
+   |         |
+   +- high --o
+```
+
+| Crate | What it is for | Knows |
+|---|---|---|
+| `low` | numbers | – |
+| `middle` | sections | `low` |
+| `high` | answers | `middle` |
+| `shown` | a program | `high`, and the toolchain's `io` |
+| `alone` | another | `low` |
+";
+
+fn map_faults_after(part: &str, other: &str) -> Vec<String> {
+    assert!(MAP.contains(part), "{part} is not in the map");
+    map_faults(&MAP.replace(part, other), LISTED)
+}
+
+#[test]
+fn a_map_is_read() {
+    assert_eq!(map_faults(MAP, LISTED), [""; 0]);
+    assert_eq!(drawn_of(MAP)["shown"], BTreeSet::from(["high".to_string()]));
+    assert_eq!(drawn_of(MAP)["high"], BTreeSet::from(["middle".to_string()]));
+}
+
+#[test]
+fn another_map_is_found() {
+    assert_eq!(map_faults_after("high --o", "high --|"), ["shown: the picture knows Some({})"]);
+    let further = ["shown: the picture knows Some({\"low\", \"middle\"})"];
+    assert_eq!(map_faults_after("   +- high --o", "   +- high   |").len(), 1);
+    assert_eq!(map_faults_after("+- middle    |", "+- middle ---o").len(), 0);
+    assert_eq!(
+        map_faults_after("+- middle    |\n   |         |\n   +- high --o", "+- middle ---o\n   |\n   +- high"),
+        further
+    );
+    let hangs = map_faults_after("   +- high --o", "+- high -----o");
+    assert_eq!(
+        hangs,
+        ["high: the picture knows Some({\"low\"})", "shown: the picture knows Some({\"high\", \"low\"})"]
+    );
+    let unlisted = map_faults(MAP, &LISTED.replace("alone: low\n", ""));
+    assert_eq!(unlisted.len(), 2);
+    assert_eq!(map_faults_after("| `alone` | another | `low` |\n", ""), ["alone: the table knows None"]);
+    let fewer = ["shown: the table knows Some({\"high\", \"low\", \"middle\"})"];
+    assert_eq!(map_faults_after("`high`, and the toolchain's `io`", "`high`"), fewer);
 }

@@ -10,16 +10,19 @@ use suntimpani_tests::maker::{Function, Machine, Row, Section};
 use suntimpani_tests::program::{counted, text, Folder};
 use suntimpani_tests::reader::{self, Base, Outcome, Place, Verdict, USUAL_FRAMES};
 use suntimpani_tests::walk::Walk;
-use suntimpani_tests::words::{self, forms, wrong, COMMANDS, DECIMAL, MOST_SECTION_BYTES, MOST_STACK_BYTES};
+use suntimpani_tests::words::{self, forms, hints, wrong, COMMANDS, DECIMAL};
+use suntimpani_tests::words::{MOST_BYTES, USUAL_SECTION_BYTES, USUAL_STACK_BYTES};
 use suntimpani_tests::{in_repository, ADDRESS};
 
 // Numbers are given in each of their forms, by turns.
 fn given(number: u64) -> String {
-    match number % 4 {
+    match number % 6 {
         0 => format!("{number:x}"),
         1 => format!("0x{number:x}"),
         2 => format!("{number:016x}"),
-        _ => format!("0x{number:016x}"),
+        3 => format!("0x{number:016x}"),
+        4 => format!("0X{number:016X}"),
+        _ => format!("{number:024x}"),
     }
 }
 
@@ -28,19 +31,23 @@ const MOST_DECIMAL: u64 = 9_999_999_999_999_999_999;
 
 fn check(folder: &Folder, section: &[u8]) {
     folder.put("section", section);
-    folder.answers(&["check", "section"], &words::verdict(section, reader::check(section)));
+    let expected = words::verdict(section, reader::check(section));
+    folder.says(&["check", "section"], &expected, &hints::of_file("section", section));
 }
 
 fn lookup(folder: &Folder, section: &[u8], address: u64, pc: u64) {
     folder.put("section", section);
-    let expected = words::answer(&reader::lookup(section, address, pc));
-    folder.answers(&["lookup", "section", &given(address), &given(pc)], &expected);
+    let answer = reader::lookup(section, address, pc);
+    let hint = hints::of_file("section", section) + &hints::of_number(section, answer.refusal());
+    let expected = words::answer(section, pc, &answer);
+    folder.says(&["lookup", "section", &given(address), &given(pc)], &expected, &hint);
 }
 
 fn ask(folder: &Folder, section: &[u8], address: u64, pc: u64) {
     folder.put("section", section);
-    let expected = words::asked(&reader::ask(section, address, pc));
-    folder.answers(&["ask", "section", &given(address), &given(pc)], &expected);
+    let expected = words::asked(section, pc, &reader::ask(section, address, pc));
+    let hint = hints::of_file("section", section);
+    folder.says(&["ask", "section", &given(address), &given(pc)], &expected, &hint);
 }
 
 // A caller and a trace; a mask of 0 is left out. The program lends its own buffer, which has room for every limit; a
@@ -58,8 +65,10 @@ fn walk(folder: &Folder, section: &[u8], walk: &Walk) {
     let arguments = |command, last| {
         [&[command, "section", &address, "stack", &stack_address, pc, sp, fp, lr, last][..], masks].concat()
     };
-    folder.answers(&arguments("caller", &first), &words::step(&walked.step));
-    folder.answers(&arguments("trace", &limit), &words::trace(walk.registers.pc, walk.limit, &walked));
+    let hint = |number| hints::of_file("section", section) + &hints::of_number(section, number);
+    folder.says(&arguments("caller", &first), &words::step(&walked.step), &hint(walked.step.number()));
+    let traced = words::trace(walk.registers.pc, walk.limit, &walked);
+    folder.says(&arguments("trace", &limit), &traced, &hint(walked.traced.ending.number()));
 }
 
 #[test]
@@ -79,24 +88,29 @@ fn the_lookups_of_document_01_are_answered() {
     folder.put("S", &S);
     folder.answers(&["check", "S"], "accepted: AMD64, 2 functions, 3 rows, sorted\n");
     let entered = |function, compared| {
-        let place = format!("found: function {function}, row 0, which starts at 0");
+        let bounds = ["0 (start +0x1000, size 32)", "1 (start +0x1040, size 16)"][function];
+        let place = format!("found: function {bounds}, row 0, which starts at 0");
         format!("{place}\nCFA is SP + 8\nRA is at CFA - 8\nFP is unchanged\nentries compared: {compared}\n")
     };
-    let framed = "found: function 0, row 1, which starts at 4\nCFA is FP + 16\nRA is at CFA - 8\nFP is at CFA - 16\n";
-    let framed = format!("{framed}entries compared: 2\n");
-    let none = "refused: 21, no function covers the PC\nentries compared: 2\n".to_string();
+    let framed = "found: function 0 (start +0x1000, size 32), row 1, which starts at 4\n";
+    let framed = format!("{framed}CFA is FP + 16\nRA is at CFA - 8\nFP is at CFA - 16\nentries compared: 2\n");
+    let none = |pc| format!("refused: 21, no function covers the PC\nlooked up: {pc}\nentries compared: 2\n");
     let answers = [
-        ("401003", entered(0, 2)),
-        ("0x401004", framed.clone()),
-        ("000000000040101f", framed),
-        ("400fff", none.clone()),
-        ("401020", none.clone()),
-        ("0x000000000040103F", none),
-        ("401040", entered(1, 1)),
+        ("401003", 0x40_1003, entered(0, 2)),
+        ("0x401004", 0x40_1004, framed.clone()),
+        ("000000000040101f", 0x40_101f, framed),
+        ("400fff", 0x40_0fff, none("0000000000400fff")),
+        ("401020", 0x40_1020, none("0000000000401020")),
+        ("0X00000000000000000000040103F", 0x40_103f, none("000000000040103f")),
+        ("401040", 0x40_1040, entered(1, 1)),
     ];
-    for (pc, expected) in answers {
-        folder.answers(&["lookup", "S", "400000", pc], &expected);
+    for (pc, _, expected) in &answers {
+        folder.answers(&["lookup", "S", "400000", pc], expected);
     }
+    // All of them in one run, each behind its PC.
+    let all: Vec<&str> = ["lookup", "S", "400000"].into_iter().chain(answers.iter().map(|(pc, _, _)| *pc)).collect();
+    let expected: String = answers.iter().map(|(_, pc, answer)| format!("PC {pc:016x}\n{answer}")).collect();
+    folder.answers(&all, &expected);
 }
 
 // By hand too: S, S without its flag, cut short, and with a second row of the first function that starts as the first.
@@ -109,19 +123,21 @@ fn one_address_is_asked_of_s() {
         folder.put(name, section);
     }
     let row = "row 0, which starts at 0\nCFA is SP + 8\nRA is at CFA - 8\nFP is unchanged\nentries compared: ";
-    let none = "refused: 21, no function that covers the PC was landed on\nentries compared: 2\n";
+    let (first, second) = ("function 0 (start +0x1000, size 32)", "function 1 (start +0x1040, size 16)");
+    let none = |pc| {
+        format!("refused: 21, no function that covers the PC was landed on\nlooked up: {pc}\nentries compared: 2\n")
+    };
     let unsorted = "refused: 45, the sorted flag is not set, and only a sorted section can be asked";
-    let damaged =
-        "refused: 44, the function landed on covers the PC and breaks one of the rules 9 to 13, in function 0";
+    let damaged = "refused: 44, the function landed on covers the PC and breaks one of the rules 9 to 13, in ";
     let answers = [
-        ("S", "401003", format!("found: function 0, {row}2\n")),
-        ("S", "0x000000000040103F", none.to_string()),
-        ("S", "401040", format!("found: function 1, {row}1\n")),
+        ("S", "401003", format!("found: {first}, {row}2\n")),
+        ("S", "0x000000000040103F", none("000000000040103f")),
+        ("S", "401040", format!("found: {second}, {row}1\n")),
         ("unsorted", "401003", format!("{unsorted}\nentries compared: 0\n")),
         ("short", "401003", "refused: 1, fewer than 28 bytes\nentries compared: 0\n".to_string()),
-        ("twice", "401003", format!("{damaged}\nentries compared: 2\n")),
-        ("twice", "401020", none.to_string()),
-        ("twice", "0x401040", format!("found: function 1, {row}1\n")),
+        ("twice", "401003", format!("{damaged}{first}\nlooked up: 0000000000401003\nentries compared: 2\n")),
+        ("twice", "401020", none("0000000000401020")),
+        ("twice", "0x401040", format!("found: {second}, {row}1\n")),
     ];
     for (file, pc, expected) in answers {
         folder.answers(&["ask", file, "400000", pc], &expected);
@@ -145,7 +161,7 @@ fn every_answer_of_one_that_is_asked_is_told() {
         }
     }
     let numbers: BTreeSet<u64> = told.iter().map(|(_, number, _)| *number).collect();
-    // 2 is longer than what the program reads.
+    // 2 is not among the stored cases, since it takes 16,777,217 bytes.
     let expected = BTreeSet::from([0, 1, 3, 4, 5, 6, 7, 8, 21, 23, 44, 45]);
     assert_eq!(numbers, expected);
     for number in [0, 21, 23, 44, 45] {
@@ -164,9 +180,9 @@ fn the_walks_of_document_01_are_answered() {
     let from = |command, stack, last| [command, "S", "400000", stack, "7000", "401044", "7000", "7030", "0", last];
     let caller = "caller:\nPC  0000000000401008\nSP  0000000000007008\nFP  0000000000007030\nLR  0000000000000000\n";
     folder.answers(&from("caller", "stack", "1"), caller);
-    let head = "frame  CFA               RA                FP\n";
-    let first = format!("{head}    0  0000000000007008  0000000000401008  0000000000007030\n");
-    let second = format!("{first}    1  0000000000007040  0000000000000000  0000000000000000\n");
+    let head = "frame  PC                CFA               RA                FP\n";
+    let first = format!("{head}    0  0000000000401044  0000000000007008  0000000000401008  0000000000007030\n");
+    let second = format!("{first}    1  0000000000401008  0000000000007040  0000000000000000  0000000000000000\n");
     let whole = format!("{second}frames: 2\nended: 30, RA is 0: the outermost frame\n");
     // A limit is decimal: 0x256 would be too high.
     for limit in ["2", "256", "0000000000000000002"] {
@@ -176,10 +192,12 @@ fn the_walks_of_document_01_are_answered() {
         folder.answers(&from("trace", "stack", limit), &format!("{whole}limit in force: 128\n"));
     }
     folder.answers(&from("trace", "stack", "1"), &format!("{first}frames: 1\nended: 31, the limit is full\n"));
-    let ended = "frames: 1\nended: 28, a needed word is not wholly inside the stack window\n";
+    let ended = "frames: 1\nended: 28, a needed word is not wholly inside the stack window\nat PC: 0000000000401008\n";
     folder.answers(&from("trace", "shorter", "2"), &format!("{first}{ended}"));
-    for limit in ["257", "0000000000000000257", "9999999999999999999"] {
-        folder.answers(&from("trace", "stack", limit), "refused: 42, the limit is above 256\n");
+    let high = [("257", "257"), ("00000000000000000000257", "257"), ("9999999999999999999", "9999999999999999999")];
+    for (limit, understood) in high {
+        let refused = format!("refused: 42, the limit is above 256\nlimit given: {understood}\n");
+        folder.answers(&from("trace", "stack", limit), &refused);
     }
 }
 
@@ -197,9 +215,9 @@ fn a_mask_is_taken_and_may_be_left_out() {
     let from = |command, last| [command, "signed", "400000", "stack", "7000", "401004", "7000", "0", "5", last];
     let with = |command, last, mask| [&from(command, last)[..], &[mask]].concat();
     let caller = "caller:\nPC  0000000000401008\nSP  0000000000007010\nFP  7f00000000007020\nLR  0000000000000005\n";
-    let head = "frame  CFA               RA                FP\n";
-    let first = "    0  0000000000007010  0000000000401008  7f00000000007020\n";
-    let second = "    1  0000000000007020  0000000000000000  0000000000000000\n";
+    let head = "frame  PC                CFA               RA                FP\n";
+    let first = "    0  0000000000401004  0000000000007010  0000000000401008  7f00000000007020\n";
+    let second = "    1  0000000000401008  0000000000007020  0000000000000000  0000000000000000\n";
     let whole = format!("{head}{first}{second}frames: 2\nended: 30, RA is 0: the outermost frame\n");
     for mask in ["7f000000000000", "0x007F000000000000", "ffff000000000000"] {
         folder.answers(&with("caller", "1", mask), caller);
@@ -207,10 +225,11 @@ fn a_mask_is_taken_and_may_be_left_out() {
     }
     let signed = "24, the return address is signed, and no mask says by which bits\n";
     folder.answers(&from("caller", "1"), &format!("refused: {signed}"));
-    folder.answers(&from("trace", "2"), &format!("frames: 0\nended: {signed}"));
+    let met = "at PC: 0000000000401004\n";
+    folder.answers(&from("trace", "2"), &format!("frames: 0\nended: {signed}{met}"));
     for none in ["0", "0x0", "0000000000000000"] {
         folder.answers(&with("caller", "1", none), &format!("refused: {signed}"));
-        folder.answers(&with("trace", "2", none), &format!("frames: 0\nended: {signed}"));
+        folder.answers(&with("trace", "2", none), &format!("frames: 0\nended: {signed}{met}"));
     }
 }
 
@@ -268,7 +287,7 @@ fn what_was_looked_up_is_told() {
     }
 }
 
-// The first case of every number that a section is refused with; 2 is longer than what the program reads.
+// The first case of every number that a section is refused with; 2 is not among the stored cases.
 #[test]
 fn every_refusal_of_a_section_is_told() {
     let folder = Folder::of("refused");
@@ -338,40 +357,124 @@ fn every_ending_is_told() {
     assert!(numbers.is_superset(&expected), "{numbers:?}");
 }
 
+/// S, with unused row bytes behind it up to so many bytes: it is accepted only where the whole file was read.
+fn section_of(bytes: usize) -> Vec<u8> {
+    let mut section = vec![0; bytes];
+    section[..78].copy_from_slice(&S);
+    section[16..20].copy_from_slice(&(bytes as u32 - 68).to_le_bytes());
+    let accepted = reader::check(&section) == Verdict::Accepted;
+    assert_eq!(accepted, bytes <= MOST_BYTES);
+    section
+}
+
+const ACCEPTED: &str = "accepted: AMD64, 2 functions, 3 rows, sorted\n";
+
+/// The usual stack, and one that has room for the longest files.
+const USUAL_KILOBYTES: u64 = 8_192;
+const MANY_KILOBYTES: u64 = 49_152;
+
+// The rooms are of four sizes: a file that fills one, and one that is a byte longer.
 #[test]
 fn a_section_is_read_up_to_its_most_bytes() {
     let folder = Folder::of("section");
     check(&folder, &[]);
-    let mut longest = vec![0; MOST_SECTION_BYTES];
-    longest[..78].copy_from_slice(&S);
-    check(&folder, &longest);
-    // What is behind S is unused row bytes, so that it is accepted only where the whole file was read.
-    longest[16..20].copy_from_slice(&(MOST_SECTION_BYTES as u32 - 68).to_le_bytes());
-    assert_eq!(reader::check(&longest), Verdict::Accepted);
-    check(&folder, &longest);
-    longest.push(0);
-    folder.put("section", &longest);
-    let too_long = wrong::too_long("section", MOST_SECTION_BYTES);
-    folder.refuses(&["check", "section"], &too_long);
-    folder.refuses(&["list", "section"], &too_long);
-    folder.refuses(&["lookup", "section", "0", "0"], &too_long);
-    folder.refuses(&["ask", "section", "0", "0"], &too_long);
-    folder.refuses(&["why", "section", "0", "0"], &too_long);
+    for most in [65_536, 1_048_576, USUAL_SECTION_BYTES] {
+        for bytes in [most - 1, most, most + 1] {
+            folder.put("section", &section_of(bytes));
+            let said = folder.run_with_stack(MANY_KILOBYTES, &["check", "section"]);
+            assert_eq!(said, (ACCEPTED.to_string(), String::new()), "{bytes}");
+        }
+    }
+    folder.put("section", &section_of(USUAL_SECTION_BYTES));
+    assert_eq!(folder.run_with_stack(USUAL_KILOBYTES, &["check", "section"]).0, ACCEPTED);
+    folder.put("section", &section_of(USUAL_SECTION_BYTES + 1));
+    let too_long = (String::new(), wrong::too_long("section", USUAL_SECTION_BYTES));
+    for command in [&["check", "section"][..], &["list", "section"], &["lookup", "section", "0", "0"]] {
+        assert_eq!(folder.run_with_stack(USUAL_KILOBYTES, command), too_long, "{command:?}");
+    }
+    let rest = [&["ask", "section", "0", "0"][..], &["why", "section", "0", "0"]];
+    rest.iter().for_each(|command| assert_eq!(folder.run_with_stack(USUAL_KILOBYTES, command), too_long));
 }
 
-// K10 at the very end of a window of the most bytes.
+// A file that is longer than a section may be is refused by the rule that says so, whatever its length is.
 #[test]
-fn a_stack_is_read_up_to_its_most_bytes() {
-    let folder = Folder::of("stack");
+fn a_section_of_the_most_bytes_is_read_and_a_longer_one_refused() {
+    let folder = Folder::of("longest");
+    folder.put("section", &section_of(MOST_BYTES));
+    let said = |command: &[&str]| folder.run_with_stack(MANY_KILOBYTES, command);
+    assert_eq!(said(&["check", "section"]).0, ACCEPTED);
+    let two = "refused: 2, more than 16,777,216 bytes\n";
+    for longer in [1, 5_000_000] {
+        folder.put("section", &section_of(MOST_BYTES + longer)[..]);
+        assert_eq!(said(&["check", "section"]), (two.to_string(), String::new()));
+    }
+    assert_eq!(said(&["lookup", "section", "0", "0"]).0, format!("{two}entries compared: 0\n"));
+    assert_eq!(said(&["ask", "section", "0", "0"]).0, format!("{two}entries compared: 0\n"));
+}
+
+/// K10 at the very end of a window of so many bytes.
+fn deep(bytes: usize) -> Walk {
     let cases = cases::all();
     let mut deep = case_named(&cases, "K1_S").walks[0].0.clone();
     let begin = 0x7fff_0000_0000;
-    let moved = begin + (MOST_STACK_BYTES - deep.stack.len()) as u64 - deep.process.stack;
+    let moved = begin + (bytes - deep.stack.len()) as u64 - deep.process.stack;
     (deep.registers.sp, deep.registers.fp) = (deep.registers.sp + moved, deep.registers.fp + moved);
-    deep.stack.splice(0..0, vec![0; MOST_STACK_BYTES - deep.stack.len()]);
+    deep.stack.splice(0..0, vec![0; bytes - deep.stack.len()]);
     deep.process.stack = begin;
     assert_eq!(deep.by_reader(&S).traced.frames, 2);
-    walk(&folder, &S, &deep);
+    deep
+}
+
+/// The standard output and standard error of a trace of such a walk in S, on a stack of so many kilobytes.
+fn traced_with(folder: &Folder, kilobytes: u64, section: &[u8], walk: &Walk) -> (String, String) {
+    folder.put("S", section);
+    folder.put("stack", &walk.stack);
+    let Walk { process, registers, .. } = walk;
+    let numbers = [process.stack, registers.pc, registers.sp, registers.fp, registers.lr].map(|n| format!("{n:x}"));
+    let [stack, pc, sp, fp, lr] = numbers.each_ref().map(String::as_str);
+    let address = format!("{:x}", process.section);
+    folder.run_with_stack(kilobytes, &["trace", "S", &address, "stack", stack, pc, sp, fp, lr, "2"])
+}
+
+#[test]
+fn a_stack_is_read_up_to_its_most_bytes() {
+    let folder = Folder::of("stack");
+    for bytes in [65_536, 65_537, USUAL_STACK_BYTES] {
+        walk(&folder, &S, &deep(bytes));
+    }
+    for (kilobytes, most) in [(USUAL_KILOBYTES, USUAL_STACK_BYTES), (MANY_KILOBYTES, MOST_BYTES)] {
+        // Both files as long as they may be on such a stack.
+        let section = section_of(if most == MOST_BYTES { most } else { USUAL_SECTION_BYTES });
+        let longest = deep(most);
+        let expected = words::trace(longest.registers.pc, 2, &longest.by_reader(&section));
+        assert_eq!(traced_with(&folder, kilobytes, &section, &longest), (expected, String::new()));
+        let too_long = (String::new(), wrong::too_long("stack", most));
+        assert_eq!(traced_with(&folder, kilobytes, &section, &deep(most + 1)), too_long);
+    }
+}
+
+// From next to nothing to more than the usual: the program answers, or says that there is no room, and is never killed. An
+// environment of 100,000 bytes is on the stack too.
+#[test]
+fn no_stack_limit_kills_the_program() {
+    let folder = Folder::of("limits");
+    folder.put("small", &S);
+    folder.put("large", &section_of(2_000_000));
+    let k10 = deep(64);
+    let mut told = BTreeSet::new();
+    for kilobytes in (150..1_000).step_by(25).chain((1_000..9_000).step_by(250)) {
+        let no_room = wrong::no_room(1_024 * kilobytes);
+        let said = folder.run_with_stack(kilobytes, &["check", "small"]);
+        assert!(said == (ACCEPTED.to_string(), String::new()) || said.1 == no_room, "{kilobytes}: {said:?}");
+        told.insert(said.1.is_empty());
+        let (out, err) = folder.run_with_stack(kilobytes, &["check", "large"]);
+        let too_long = |most| err == wrong::too_long("large", most);
+        assert!(out == ACCEPTED || err == no_room || too_long(65_536) || too_long(1_048_576), "{kilobytes}: {err}");
+        let (out, err) = traced_with(&folder, kilobytes, &S, &k10);
+        assert!(out.contains("\nframes: 2\n") || err == no_room, "{kilobytes}: {out}{err}");
+    }
+    assert_eq!(told.len(), 2, "both are met");
+    assert_eq!(folder.run_with_stack(7_150, &["check", "small"]).0, ACCEPTED);
 }
 
 #[test]
@@ -380,7 +483,7 @@ fn a_wrong_command_is_told() {
     folder.put("S", &S);
     folder.refuses(&[], &wrong::no_command());
     folder.refuses(&["foo", "S"], &wrong::unknown("foo"));
-    for command in ["foo", "", "Check", "checks", "-h", "S"] {
+    for command in ["foo", "", "Check", "checks", "-H", "--hel", "-", "S", "a\u{1b}[31m\n\\"] {
         folder.refuses(&[command], &wrong::unknown(command));
     }
 }
@@ -392,9 +495,9 @@ fn a_wrong_count_is_told() {
         let taken: Vec<RangeInclusive<usize>> = forms(takes).map(counts_of).collect();
         // Nothing of them is looked at: neither is a file, nor a number.
         let refuses = |count| folder.refuses(&[&[command][..], &vec!["?"; count]].concat(), &wrong::count(command));
-        let beside = taken.iter().flat_map(|counts| [counts.start().saturating_sub(1), counts.end() + 1]);
+        let beside = taken.iter().flat_map(|counts| [counts.start().saturating_sub(1), counts.end().saturating_add(1)]);
         let others = beside.chain([0, 20]).filter(|count| !taken.iter().any(|counts| counts.contains(count)));
-        others.for_each(refuses);
+        others.filter(|count| *count <= 20).for_each(refuses);
     }
 }
 
@@ -403,18 +506,18 @@ fn every_form() -> impl Iterator<Item = (&'static str, &'static str)> {
     COMMANDS.into_iter().flat_map(|(command, takes)| forms(takes).map(move |form| (command, form)))
 }
 
-// How many arguments a form has, with what may be left out and without.
+// How many arguments a form has, with what may be left out and without, and with what may be repeated.
 fn counts_of(form: &str) -> RangeInclusive<usize> {
-    let most = form.split_whitespace().count();
-    most - form.matches('[').count()..=most
+    let all = form.split_whitespace().count();
+    all - form.matches('[').count()..=if form.ends_with("...") { usize::MAX } else { all }
 }
 
-const NO_HEXADECIMAL: [&str; 9] =
-    ["", "xyz", "0x", "12345678123456781", "0x12345678123456781", "-1", "+1", "1 ", "0x0x1"];
+const NO_HEXADECIMAL: [&str; 11] =
+    ["", "xyz", "0x", "0X", "12345678123456781", "0x012345678123456781", "-1", "+1", "1 ", "0x0x1", "1\u{1b}"];
 
-// 20 digits are too many, whatever they come to.
-const NO_DECIMAL: [&str; 12] =
-    ["", "xyz", "0x10", "ff", "1f", "12345678901234567890", "00000000000000000001", "-1", "+1", "1 ", " 1", "1.0"];
+// 20 digits are too many, whatever they come to, unless zeros stand in front.
+const NO_DECIMAL: [&str; 11] =
+    ["", "xyz", "0x10", "ff", "1f", "12345678901234567890", "-1", "+1", "1 ", "1.0", "0\u{7}"];
 
 // Every number of every command, all other arguments being right.
 #[test]
@@ -423,8 +526,8 @@ fn a_wrong_number_is_told() {
     folder.put("FILE", &S);
     folder.put("STACK", &[0; 8]);
     for (command, form) in every_form() {
-        let names: Vec<&str> = form.split(' ').map(|name| name.trim_matches(['[', ']'])).collect();
-        let numbers = (0..names.len()).filter(|&place| !["FILE", "STACK", ""].contains(&names[place]));
+        let names: Vec<&str> = form.split(' ').map(|name| name.trim_matches(['[', ']', '.'])).collect();
+        let numbers = (0..names.len()).filter(|&place| !["FILE", "STACK", "COMMAND", ""].contains(&names[place]));
         numbers.for_each(|place| wrong_numbers_at(&folder, command, &names, place));
     }
 }
@@ -464,11 +567,11 @@ fn a_wrong_file_is_told() {
 fn a_stack_of_too_many_bytes_is_told() {
     let folder = Folder::of("long");
     folder.put("S", &S);
-    folder.put("long", &vec![0; MOST_STACK_BYTES + 1]);
-    let said = wrong::too_long("long", MOST_STACK_BYTES);
-    folder.refuses(&walk_of("caller", "S", "long"), &said);
-    folder.refuses(&walk_of("trace", "S", "long"), &said);
-    folder.refuses(&with_mask(walk_of("why", "S", "long")), &said);
+    folder.put("long", &vec![0; MOST_BYTES + 1]);
+    let said = (String::new(), wrong::too_long("long", MOST_BYTES));
+    for walk in [walk_of("caller", "S", "long").to_vec(), with_mask(walk_of("why", "S", "long"))] {
+        assert_eq!(folder.run_with_stack(MANY_KILOBYTES, &walk), said, "{walk:?}");
+    }
 }
 
 fn walk_of<'a>(command: &'a str, section: &'a str, stack: &'a str) -> [&'a str; 10] {
@@ -487,6 +590,7 @@ fn the_leftmost_wrong_argument_is_told() {
     folder.refuses(&["list", "nofile", "xyz"], &wrong::missing("nofile"));
     folder.refuses(&["lookup", "nofile", "xyz"], &wrong::count("lookup"));
     folder.refuses(&["lookup", "nofile", "xyz", "zzz"], &wrong::missing("nofile"));
+    folder.refuses(&["lookup", "S", "0", "1", "zzz", "yyy"], &wrong::number("PC", "zzz"));
     folder.refuses(&["lookup", "S", "xyz", "zzz"], &wrong::number("ADDRESS", "xyz"));
     folder.refuses(&["ask", "nofile", "xyz", "zzz"], &wrong::missing("nofile"));
     folder.refuses(&["ask", "S", "xyz", "zzz"], &wrong::number("ADDRESS", "xyz"));
@@ -519,7 +623,7 @@ fn help_lists_every_command() {
     let mut said = out.lines().skip_while(|line| !line.starts_with("A caller looks up PC with the mark and "));
     assert_eq!(said.nth(1), Some(OF_THE_MASK), "{out}");
     let lines: Vec<&str> = out.lines().skip_while(|line| !line.starts_with("sframe lookup ")).collect();
-    assert_eq!(lines[2..4], ["sframe ask FILE ADDRESS PC", OF_ASKING], "{out}");
+    assert_eq!(lines[2..4], ["sframe ask FILE ADDRESS PC...", OF_ASKING], "{out}");
     let of_a_step = "sframe why FILE ADDRESS STACK STACK_ADDRESS PC SP FP LR FIRST MASK";
     assert_eq!(lines[4..7], ["sframe why FILE ADDRESS PC", of_a_step, OF_WHY], "{out}");
     assert!(out.lines().any(|line| line.contains(&format!("up to 256, and 0 stands for {USUAL_FRAMES}."))), "{out}");

@@ -4,11 +4,12 @@
 use std::collections::BTreeSet;
 use std::fs;
 use suntimpani_tests::cases::{self, Why};
+use suntimpani_tests::in_repository;
 use suntimpani_tests::program::{on_two_threads, run_in, Folder};
 use suntimpani_tests::reader::{Process, Registers};
 use suntimpani_tests::reasons::Record;
 use suntimpani_tests::shown::{self, FOLDER, PAGES};
-use suntimpani_tests::{in_repository, words};
+use suntimpani_tests::words::{self, hints};
 
 fn stored(name: &str) -> Vec<u8> {
     let path = in_repository(FOLDER).join(name);
@@ -35,7 +36,8 @@ fn every_page_is_what_the_program_prints() {
         let arguments = command.strip_prefix("$ sframe ").unwrap_or_else(|| panic!("{}: {command}", page.0));
         let arguments: Vec<&str> = arguments.split(' ').collect();
         let (said, complained) = run_in(&in_repository(FOLDER), &arguments);
-        assert_eq!((said.as_str(), complained.as_str()), (expected, ""), "{}", page.0);
+        let hint = hints::beside(arguments[1], &stored(arguments[1]), expected);
+        assert_eq!((said.as_str(), complained), (expected, hint), "{}", page.0);
     }
 }
 
@@ -73,7 +75,8 @@ fn explained(folder: &Folder, why: &Why) {
     let numbers = [address, stack_address, pc, sp, fp, lr, first, mask].map(|number| format!("{number:x}"));
     let [address, stack_address, behind @ ..] = numbers.each_ref().map(String::as_str);
     let lookup = words::why_lookup(section, process.section, registers.pc);
-    folder.answers(&["why", "section", address, behind[0]], &lookup);
+    let hint = |said: &str| hints::beside("section", section, said);
+    folder.says(&["why", "section", address, behind[0]], &lookup, &hint(&lookup));
     let step = words::why_step(section, stack, *process, *registers);
-    folder.answers(&[&["why", "section", address, "stack", stack_address][..], &behind].concat(), &step);
+    folder.says(&[&["why", "section", address, "stack", stack_address][..], &behind].concat(), &step, &hint(&step));
 }

@@ -8,7 +8,8 @@
 //! call ends, and an answer that cannot be given is a refusal with its number.
 //!
 //! Nothing is allocated and nothing is kept, so that all of it may be called in a signal handler. The crate needs
-//! neither `std` nor an allocator.
+//! neither `std` nor an allocator. What a recorder meets, from the stack window's ends to a crash outside the section
+//! and sections that the linker drops, is said in the header for C, `suntimpani.h`, and in `docs/INTEGRATING.md`.
 //!
 //! ```
 //! use suntimpani::example::SECTION_S;

@@ -20,6 +20,9 @@ pub struct Process {
     /// The address of the section's first byte.
     pub section_address: u64,
     /// The address of the stack window's first byte, the lowest one.
+    ///
+    /// On AMD64 let the window begin 128 bytes below SP, with the red zone, or at the stack's lowest address where that
+    /// is above: at the end of a function a row may place FP below SP. Let it end where the thread's stack does.
     pub stack_address: u64,
     /// AArch64: the bits of a return address that hold its signature. They are cleared where a row is signed. With 0,
     /// which says that they are not known, such a row is refused with 24.
@@ -188,6 +191,9 @@ pub const USUAL_WORDS: usize = 3 * USUAL_LIMIT as usize;
 ///
 /// The buffer has at least 3 words for each frame of the limit: [`USUAL_WORDS`] for limit 0, 768 for 256. [`frames`]
 /// reads it. Every word behind the frames that the answer counts keeps what it held.
+///
+/// A trace that is full is not gone on with by another, which would begin with the mark again. [`Registers::step`] goes
+/// on, from PC, SP and FP as the last frame has them in RA, CFA and FP, LR of the crash, and no mark.
 ///
 /// ```
 /// use suntimpani::example::SECTION_S;

@@ -10,8 +10,8 @@ use native.Mathlib.Omega.{arith}
 use lib.Dec.{eqb, leb, ltb}
 use lib.ListN.{length, take, drop, getD, length-drop, drop-of-length-le}
 use lib.Seq.{drop-cons, take-all}
-use borrow.Author.Tests.{le-leb, lt-leb, lt-ltb, le-ltb}
-use Rattle.digits.specs.Digits.{isBetween, digitOf, digitsFrom, digitsOf, marked, hexOf}
+use borrow.Author.Tests.{eq-eqb, ne-eqb, le-leb, lt-leb, lt-ltb, le-ltb}
+use Rattle.digits.specs.Digits.{isBetween, digitOf, digitsFrom, digitsOf, padding, numberOf, isX, marked, hexOf}
 use Rattle.digits.specs.declared.Parsed.the-variants.{Number, Wrong}
 
 -- ---- between two bounds
@@ -114,6 +114,60 @@ room-for-one base most n i d two fits less p q =
     let powers : base ^ (i + 1) ≤ base ^ most = pow-le-pow-right {n = base} (omega arith) {i = i + 1} {j = most} (omega arith) in
     omega arith
 
+-- ---- leading zeros
+
+-- the last byte is no leading zero
+padding-last : (text : List ℕ) → length text ≤ 1 → padding text ≡ 0
+unfolding padding
+padding-last [] p = refl
+padding-last (byte ∷ []) p = refl
+padding-last (byte ∷ next ∷ text) p = absurd (omega arith)
+
+pub padding-begins : (text : List ℕ) → padding text ≡ 0 + padding (drop 0 text)
+padding-begins text = omega arith
+
+-- where the first i bytes are counted, and those from there on are still to come
+module _ (text : List ℕ) (i : ℕ) (counted : padding text ≡ i + padding (drop i text)) where
+  pub padding-ends : length text - i ≤ 1 → padding text ≡ i
+  padding-ends p = let none = padding-last (drop i text) (simp length-drop (omega arith)) in omega arith
+
+  module _ (more : 1 < length text - i) where
+    two : drop i text ≡ getD text i 0 ∷ getD text (suc i) 0 ∷ drop (suc (suc i)) text
+    two = rw (drop-cons text i 0 (omega arith)) (rw (drop-cons text (suc i) 0 (omega arith)) refl)
+
+    other : (getD text i 0 ≡ 48 → ⊥) → padding (drop i text) ≡ 0
+    unfolding padding
+    other n = rw two (rw (ne-eqb (getD text i 0) 48 n, padding))
+
+    zero : getD text i 0 ≡ 48 → padding (drop i text) ≡ suc (padding (drop (suc i) text))
+    unfolding padding
+    zero e = rw two (rw (eq-eqb (getD text i 0) 48 e, padding) (rw (drop-cons text (suc i) 0 (omega arith)) refl))
+
+    pub padding-stops : (getD text i 0 ≡ 48 → ⊥) → padding text ≡ i
+    padding-stops n = let none = other n in omega arith
+
+    pub padding-goes-on : getD text i 0 ≡ 48 → padding text ≡ (i + 1) + padding (drop (i + 1) text)
+    padding-goes-on e = let one = zero e in rw add-one (omega arith)
+
+pub padding-within : (text : List ℕ) → padding text ≤ length text
+unfolding padding
+padding-within [] = omega arith
+padding-within (byte ∷ []) = omega arith
+padding-within (byte ∷ next ∷ text) = either (eqb byte 48) (padding-within (next ∷ text)) where
+  either : (isZero : Bool) → padding (next ∷ text) ≤ length (next ∷ text)
+      → elim isZero [ true ↦ suc (padding (next ∷ text)) | false ↦ 0 ] ≤ length (byte ∷ next ∷ text)
+  either true p = omega arith
+  either false p = omega arith
+
+-- the code's part of text behind its first bytes
+behind : (n : ℕ) (text : List ℕ) → take (length text - n) (drop n text) ≡ drop n text
+behind n text = take-all (length text - n) (drop n text) (simp length-drop (omega arith))
+
+pub number-behind : (base most : ℕ) (text : List ℕ) → numberOf base most text
+    ≡ digitsOf base most (take (length text - padding text) (drop (padding text) text))
+unfolding numberOf
+number-behind base most text = rw (behind (padding text) text) refl
+
 -- ---- the leading 0x
 
 and-false : (b : Bool) → (b && false) ≡ false
@@ -121,25 +175,21 @@ and-false true = refl
 and-false false = refl
 
 pub marked-short : (text : List ℕ) → length text < 2 → marked text ≡ false
-unfolding marked
+unfolding marked isX
 marked-short [] p = refl
 marked-short (a ∷ []) p = and-false (eqb a 48)
 marked-short (a ∷ b ∷ text) p = absurd (omega arith)
 
 pub marked-long : (text : List ℕ) → marked text ≡ true → 2 ≤ length text
-unfolding marked
+unfolding marked isX
 marked-long [] e = let z : _≡_ {A = ℕ} 0 1 = cc in absurd (omega arith)
 marked-long (a ∷ []) e = let z : _≡_ {A = ℕ} 0 1 = cc (and-false (eqb a 48)) in absurd (omega arith)
 marked-long (a ∷ b ∷ text) e = omega arith
 
--- the code's part of text behind the first two bytes
-behind : (text : List ℕ) → take (length text - 2) (drop 2 text) ≡ drop 2 text
-behind text = take-all (length text - 2) (drop 2 text) (simp length-drop (omega arith))
-
-pub hex-marked : (text : List ℕ) → marked text ≡ true → hexOf text ≡ digitsOf 16 16 (take (length text - 2) (drop 2 text))
+pub hex-marked : (text : List ℕ) → marked text ≡ true → hexOf text ≡ numberOf 16 16 (take (length text - 2) (drop 2 text))
 unfolding hexOf
-hex-marked text e = rw (behind text) (rw (e, hexOf))
+hex-marked text e = rw (behind 2 text) (rw (e, hexOf))
 
-pub hex-plain : (text : List ℕ) → marked text ≡ false → hexOf text ≡ digitsOf 16 16 text
+pub hex-plain : (text : List ℕ) → marked text ≡ false → hexOf text ≡ numberOf 16 16 text
 unfolding hexOf
 hex-plain text e = rw (e, hexOf)

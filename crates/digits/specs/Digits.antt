@@ -1,7 +1,7 @@
--- What text on the command line is as a number: an address in hexadecimal, 1 to 16 digits, with or without a leading 0x; a count in
--- decimal, 1 to 19 digits. Text is the list of its bytes.
-use Prim.Native.Nat.{ℕ, _+_, _-_, _*_}
-use mathlib.Core.Bool.{Bool, true, false, _&&_}
+-- What text on the command line is as a number: an address in hexadecimal, 1 to 16 digits, with or without a leading 0x or 0X; a
+-- count in decimal, 1 to 19 digits. Leading zeros do not count. Text is the list of its bytes.
+use Prim.Native.Nat.{ℕ, suc, _+_, _-_, _*_}
+use mathlib.Core.Bool.{Bool, true, false, _&&_, _||_}
 use mathlib.Core.List.{List, [], _∷_}
 use lib.Dec.{eqb, leb, ltb}
 use lib.ListN.{length, drop, getD}
@@ -31,14 +31,28 @@ digitsFrom base n (byte ∷ text) =
 unfoldable pub digitsOf : ℕ → ℕ → List ℕ → Parsed
 digitsOf base most text = elim (isBetween 1 most (length text)) [ true ↦ digitsFrom base 0 text | false ↦ Wrong ]
 
--- whether text begins with 0x
-unfoldable pub marked : List ℕ → Bool
-marked text = eqb (getD text 0 0) 48 && eqb (getD text 1 0) 120
+-- how many zeros stand in front of another byte
+unfoldable pub padding : List ℕ → ℕ
+padding [] = 0
+padding (byte ∷ []) = 0
+padding (byte ∷ next ∷ text) = elim (eqb byte 48) [ true ↦ suc (padding (next ∷ text)) | false ↦ 0 ]
 
--- the hexadecimal number that text says, with or without a leading 0x
+-- the number that 1 to `most` digits make behind their leading zeros
+unfoldable pub numberOf : ℕ → ℕ → List ℕ → Parsed
+numberOf base most text = digitsOf base most (drop (padding text) text)
+
+-- x or X
+unfoldable pub isX : ℕ → Bool
+isX byte = eqb byte 120 || eqb byte 88
+
+-- whether text begins with 0x or 0X
+unfoldable pub marked : List ℕ → Bool
+marked text = eqb (getD text 0 0) 48 && isX (getD text 1 0)
+
+-- the hexadecimal number that text says, with or without a leading 0x or 0X
 unfoldable pub hexOf : List ℕ → Parsed
-hexOf text = elim (marked text) [ true ↦ digitsOf 16 16 (drop 2 text) | false ↦ digitsOf 16 16 text ]
+hexOf text = elim (marked text) [ true ↦ numberOf 16 16 (drop 2 text) | false ↦ numberOf 16 16 text ]
 
 -- the decimal number that text says: 19 digits make less than 2 ^ 64
 unfoldable pub decimalOf : List ℕ → Parsed
-decimalOf text = digitsOf 10 19 text
+decimalOf text = numberOf 10 19 text

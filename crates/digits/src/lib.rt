@@ -1,8 +1,8 @@
-// Numbers as the command line gives them: addresses in hexadecimal, 1 to 16 digits, with or without a leading 0x; counts in decimal,
-// 1 to 19 digits.
+// Numbers as the command line gives them: addresses in hexadecimal, 1 to 16 digits, with or without a leading 0x or 0X; counts in
+// decimal, 1 to 19 digits. Leading zeros do not count.
 ghost use mathlib.Core.Path.{_≡_};
 ghost use Prim.Native.Nat.{_≤_, _^_};
-ghost use Rattle.digits.specs.Digits.{digitOf, digitsOf, marked, hexOf, decimalOf};
+ghost use Rattle.digits.specs.Digits.{digitOf, digitsOf, padding, numberOf, isX, marked, hexOf, decimalOf};
 
 pub enum Parsed {
     Number(u64),
@@ -45,7 +45,39 @@ fn digits_of(text: &[u8], base: u64, most: usize) -> Parsed
     Parsed::Number(n)
 }
 
-// Whether text begins with 0x.
+// How many zeros stand in front of another byte.
+fn padding_of(text: &[u8]) -> usize
+    ensures { λ r. ⌜ r ≡ padding (now (text .entry)) ⌝ }
+{
+    let mut i = 0;
+    while 1 < text.len() - i {
+        if text[i] != b'0' {
+            return i;
+        }
+        i = i + 1;
+    }
+    i
+}
+
+// The number that digits to a base make behind their leading zeros.
+fn number_of(text: &[u8], base: u64, most: usize) -> Parsed
+    requires { ⌜ (2 ≤ base) × (base ^ most ≤ 2 ^ 64) ⌝ }
+    ensures { λ r. ⌜ r ≡ numberOf base most (now (text .entry)) ⌝ }
+{
+    let zeros = padding_of(text);
+    digits_of(&text[zeros..], base, most)
+}
+
+fn is_x(byte: u8) -> bool
+    ensures { λ r. ⌜ r ≡ isX byte ⌝ }
+{
+    if byte == b'x' {
+        return true;
+    }
+    byte == b'X'
+}
+
+// Whether text begins with 0x or 0X.
 fn is_marked(text: &[u8]) -> bool
     ensures { λ r. ⌜ r ≡ marked (now (text .entry)) ⌝ }
 {
@@ -53,7 +85,7 @@ fn is_marked(text: &[u8]) -> bool
         return false;
     }
     if text[0] == b'0' {
-        return text[1] == b'x';
+        return is_x(text[1]);
     }
     false
 }
@@ -63,14 +95,14 @@ pub fn parse(text: &[u8]) -> Parsed
     ensures { λ r. ⌜ r ≡ hexOf (now (text .entry)) ⌝ }
 {
     if is_marked(text) {
-        return digits_of(&text[2..], 16, 16);
+        return number_of(&text[2..], 16, 16);
     }
-    digits_of(text, 16, 16)
+    number_of(text, 16, 16)
 }
 
 // The decimal number that text says.
 pub fn parse_decimal(text: &[u8]) -> Parsed
     ensures { λ r. ⌜ r ≡ decimalOf (now (text .entry)) ⌝ }
 {
-    digits_of(text, 10, 19)
+    number_of(text, 10, 19)
 }

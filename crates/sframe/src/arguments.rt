@@ -2,46 +2,41 @@
 ghost use Prim.Native.Nat.{_≤_};
 ghost use lib.ListN.{length};
 ghost use Rattle.sframe.specs.Reading.{Within};
-use crate::line::put;
+use crate::rooms::LARGEST;
+use crate::rooms::bytes_of;
 use crate::say::complain;
-use crate::say::complain_number;
+use crate::say::note;
+use crate::say::note_argument;
+use crate::say::note_number;
+use crate::status::tell_wrong;
+use crate::text::is_same;
 use digits::Parsed;
 use digits::parse;
 use digits::parse_decimal;
+use libc::STDIN_FILENO;
 
-// The length of "sframe: ", which every message begins with.
-const FRONT: usize = 8;
-// The longest path.
-const PATH: usize = 4_095;
-
-// How many bytes of a room a file fills, or that it was not read.
+// How many bytes of a room a file fills, that it has more than the room holds, or that it was not read.
 pub enum Loaded {
     Bytes(usize),
+    Long,
     Failed,
 }
 
 // What a number of each kind is: an address in hexadecimal, a count in decimal.
-fn complain_of_kind(address: bool) {
+fn note_kind(address: bool) {
     if address {
-        complain(b" is not a hexadecimal number of 1 to 16 digits: '");
+        note(b" is not a hexadecimal number of 1 to 16 digits, leading zeros aside: '");
         return;
     }
-    complain(b" is not a decimal number of 1 to 19 digits: '");
+    note(b" is not a decimal number of 1 to 19 digits, leading zeros aside: '");
 }
 
 fn complain_of_number(name: &[u8], address: bool, text: &[u8]) {
-    complain(b"sframe: ");
-    complain(name);
-    complain_of_kind(address);
-    complain(text);
+    note(b"sframe: ");
+    note(name);
+    note_kind(address);
+    note_argument(text);
     complain(b"'\n");
-}
-
-fn complain_of_length(said: &[u8], most: u64) {
-    complain(said);
-    complain(b": more than ");
-    complain_number(most);
-    complain(b" bytes, the most that this program reads\n");
 }
 
 fn parsed(text: &[u8], address: bool) -> Parsed {
@@ -82,7 +77,7 @@ pub enum Given {
     Wrong,
 }
 
-// Arguments 3 and 4, of a lookup in any form.
+// Arguments 3 and 4, of one PC.
 pub fn address_and_pc_given() -> Given {
     let Parsed::Number(address) = number_given(3, b"ADDRESS") else {
         return Given::Wrong;
@@ -96,15 +91,55 @@ pub fn address_and_pc_given() -> Given {
     }
 }
 
+// Whether argument i is this text.
+pub fn is_argument(i: usize, text: &[u8]) -> bool {
+    let mut given = io::buffer();
+    let n = os::arg(i, &mut given);
+    is_same(&given[..n], text)
+}
+
+// Whether argument i stands for standard input.
+pub fn is_input(i: usize) -> bool {
+    is_argument(i, b"-")
+}
+
+// Argument i as a part of a message.
+pub fn note_given(i: usize) {
+    let mut given = io::buffer();
+    let n = os::arg(i, &mut given);
+    note_argument(&given[..n]);
+}
+
+// What went wrong with a file. The parts before `fail`, which reads errno, leave errno as it is.
+fn complain_of_file(name: &[u8]) {
+    note(b"sframe: ");
+    note_argument(name);
+    os::fail(b"");
+    tell_wrong();
+}
+
+// A file that is longer than the largest room that can be had.
+pub fn complain_of_length(i: usize, room: usize) {
+    note(b"sframe: ");
+    note_given(i);
+    note(b": more than ");
+    note_number(bytes_of(room));
+    if bytes_of(room) < LARGEST as u64 {
+        complain(b" bytes, for which the stack limit leaves no room: 'ulimit -s' raises it\n");
+        return;
+    }
+    complain(b" bytes, the most that this program reads\n");
+}
+
 // Reads a file to its end. The room has a byte more than may be read, so that a longer file fills it.
-fn read_all(file: i32, said: &[u8], most: u64, room: &mut [u8]) -> Loaded
+fn read_all(file: i32, name: &[u8], room: &mut [u8]) -> Loaded
     ensures { λ r. ⌜ Within r (now (room .exit)) ⌝ }
 {
     let mut done = 0;
     while done < room.len() {
         let got = libc::read(file, &mut room[done..]);
         if got < 0 {
-            os::fail(said);
+            complain_of_file(name);
             return Loaded::Failed;
         }
         let more = io::count(got, &room[done..]);
@@ -113,49 +148,35 @@ fn read_all(file: i32, said: &[u8], most: u64, room: &mut [u8]) -> Loaded
         }
         done = done + more;
     }
-    complain_of_length(said, most);
-    Loaded::Failed
+    Loaded::Long
 }
 
-// `said` is what a message begins with: its front, and the path. Nothing stands between a call that fails and `fail`,
-// which reads errno.
-fn read_file(said: &[u8], most: u64, room: &mut [u8]) -> Loaded
-    requires { ⌜ 8 ≤ length (now said) ⌝ }
+fn read_named(name: &[u8], room: &mut [u8]) -> Loaded
     ensures { λ r. ⌜ Within r (now (room .exit)) ⌝ }
 {
-    let file = os::open_read(&said[FRONT..]);
+    if is_same(name, b"-") {
+        return read_all(STDIN_FILENO, b"standard input", room);
+    }
+    let file = os::open_read(name);
     if file < 0 {
-        os::fail(said);
+        complain_of_file(name);
         return Loaded::Failed;
     }
-    let loaded = read_all(file, said, most, room);
+    let loaded = read_all(file, name, room);
     libc::close(file);
     loaded
 }
 
-fn path_room() -> [u8; FRONT + PATH] {
-    [0u8; FRONT + PATH]
-}
-
-// Puts argument i behind the front of a message, and answers where it ends. errno is what `arg` left.
-fn named_in(said: &mut [u8], i: usize) -> usize
-    requires { ⌜ 8 ≤ length (now said) ⌝ }
-    ensures { λ r. ⌜ (8 ≤ r) × (r ≤ length (now (said .exit))) ⌝ }
-{
-    put(said, 0, b"sframe: ");
-    let n = os::arg(i, &mut said[FRONT..]);
-    FRONT + n
-}
-
 // Reads the file that argument i names. `unnamed` is what the message is about where the name itself is too long.
-pub fn file_given(i: usize, unnamed: &[u8], most: u64, room: &mut [u8]) -> Loaded
+pub fn file_given(i: usize, unnamed: &[u8], room: &mut [u8]) -> Loaded
     ensures { λ r. ⌜ Within r (now (room .exit)) ⌝ }
 {
-    let mut said = path_room();
-    let end = named_in(&mut said, i);
+    let mut name = io::buffer();
+    let n = os::arg(i, &mut name);
     if os::errno() != 0 {
         os::fail(unnamed);
+        tell_wrong();
         return Loaded::Failed;
     }
-    read_file(&said[..end], most, room)
+    read_named(&name[..n], room)
 }

@@ -1,38 +1,231 @@
-// What `sframe help` prints.
+// What `sframe help` prints: a part for each command, and what its arguments are. The texts stand here as they are printed.
+use crate::say::complain;
+use crate::say::note;
+use crate::say::note_argument;
 use crate::say::say;
+use crate::text::is_same;
 
-// The text stands here as it is printed.
-pub fn show_help() {
-    say(
-        b"\
+// What a person can ask for.
+pub enum Topic {
+    Check,
+    List,
+    Lookup,
+    Ask,
+    Why,
+    Caller,
+    Trace,
+    Help,
+    Version,
+    Unknown,
+}
+
+fn own_topic_of(word: &[u8]) -> Topic {
+    if is_same(word, b"help") {
+        return Topic::Help;
+    }
+    if is_same(word, b"--help") {
+        return Topic::Help;
+    }
+    if is_same(word, b"-h") {
+        return Topic::Help;
+    }
+    if is_same(word, b"version") {
+        return Topic::Version;
+    }
+    if is_same(word, b"--version") {
+        return Topic::Version;
+    }
+    Topic::Unknown
+}
+
+fn walk_topic_of(word: &[u8]) -> Topic {
+    if is_same(word, b"why") {
+        return Topic::Why;
+    }
+    if is_same(word, b"caller") {
+        return Topic::Caller;
+    }
+    if is_same(word, b"trace") {
+        return Topic::Trace;
+    }
+    own_topic_of(word)
+}
+
+// The command that a word names.
+pub fn topic_of(word: &[u8]) -> Topic {
+    if is_same(word, b"check") {
+        return Topic::Check;
+    }
+    if is_same(word, b"list") {
+        return Topic::List;
+    }
+    if is_same(word, b"lookup") {
+        return Topic::Lookup;
+    }
+    if is_same(word, b"ask") {
+        return Topic::Ask;
+    }
+    walk_topic_of(word)
+}
+
+// A word that names no command.
+pub fn complain_of_word(word: &[u8]) {
+    note(b"sframe: '");
+    note_argument(word);
+    complain(b"' is no command; 'sframe help' lists them\n");
+}
+
+fn say_use(topic: Topic) {
+    match topic {
+        Topic::Check => {
+            say(
+                b"\
 sframe check FILE
     whether a section is accepted, else the first broken rule
+",
+            );
+        }
+        Topic::List => {
+            say(
+                b"\
 sframe list FILE [INDEX]
     every function and row of a section, or one function by its index
-sframe lookup FILE ADDRESS PC
-    the function and the row for a PC
-sframe ask FILE ADDRESS PC
+",
+            );
+        }
+        Topic::Lookup => {
+            say(
+                b"\
+sframe lookup FILE ADDRESS PC...
+    the function and the row for each PC
+",
+            );
+        }
+        Topic::Ask => {
+            say(
+                b"\
+sframe ask FILE ADDRESS PC...
     the same without a check of the whole section: only what the answer needs is read
+",
+            );
+        }
+        Topic::Why => {
+            say(
+                b"\
 sframe why FILE ADDRESS PC
 sframe why FILE ADDRESS STACK STACK_ADDRESS PC SP FP LR FIRST MASK
     why a lookup or a caller comes to its answer, in numbers that can be checked by hand
+",
+            );
+        }
+        Topic::Caller => {
+            say(
+                b"\
 sframe caller FILE ADDRESS STACK STACK_ADDRESS PC SP FP LR FIRST [MASK]
     the registers of the caller
+",
+            );
+        }
+        Topic::Trace => {
+            say(
+                b"\
 sframe trace FILE ADDRESS STACK STACK_ADDRESS PC SP FP LR LIMIT [MASK]
     every caller in turn, at most LIMIT of them
-sframe help
-    this text
+",
+            );
+        }
+        Topic::Help => {
+            say(
+                b"\
+sframe help [COMMAND]
+    this text, or what it says of one command; also --help, -h, and COMMAND --help
+",
+            );
+        }
+        Topic::Version => {
+            say(
+                b"\
 sframe version
-    the version of this program
+    the version of this program; also --version
+",
+            );
+        }
+        Topic::Unknown => {}
+    }
+}
 
-FILE has the bytes of an .sframe section, at most 6291456, and ADDRESS is where the section is loaded.
-STACK has the bytes of the stack window, at most 1048576, and STACK_ADDRESS is where its first byte lies.
+fn say_of_files() {
+    say(
+        b"
+FILE has the bytes of an .sframe section, at most 16777216, and ADDRESS is where the section is loaded.
+    objcopy -O binary --only-section=.sframe PROGRAM FILE    takes the section out of a program
+- as FILE or STACK is standard input.
+",
+    );
+}
+
+fn say_of_walks() {
+    say(
+        b"\
+STACK has the bytes of the stack window, at most 16777216, and STACK_ADDRESS is where its first byte lies.
 PC, SP, FP and LR are the registers. FIRST is 0 for no first-frame mark, any other number for the mark.
 A caller looks up PC with the mark and PC - 1 without it; a trace looks up PC, then each RA - 1.
 MASK has the bits of a signature, which are cleared from a signed RA (AArch64); left out it is 0: no such RA is taken.
-LIMIT is the most frames, up to 256, and 0 stands for 128. INDEX counts the functions from 0.
-LIMIT and INDEX are decimal, 1 to 19 digits.
-All other numbers given are hexadecimal, 1 to 16 digits, with or without a leading 0x.
+LIMIT is the most frames, up to 256, and 0 stands for 128.
 ",
     );
+}
+
+fn say_of_numbers() {
+    say(
+        b"\
+INDEX counts the functions from 0. INDEX and LIMIT are decimal, 1 to 19 digits.
+All other numbers given are hexadecimal, 1 to 16 digits, with or without a leading 0x or 0X. Leading zeros do not count.
+The status is 0 where the answer is given, 1 where it is refused (also a trace without a frame, and one refusal of several PCs),
+and 2 where the command line is wrong, a file cannot be read or the answer cannot be written.
+",
+    );
+}
+
+// What the arguments of one command are.
+fn say_of_arguments(topic: Topic) {
+    match topic {
+        Topic::Check | Topic::List | Topic::Lookup | Topic::Ask => {
+            say_of_files();
+            say_of_numbers();
+        }
+        Topic::Why | Topic::Caller | Topic::Trace => {
+            say_of_files();
+            say_of_walks();
+            say_of_numbers();
+        }
+        Topic::Help | Topic::Version | Topic::Unknown => {}
+    }
+}
+
+// All of it.
+pub fn show_help() {
+    say_use(Topic::Check);
+    say_use(Topic::List);
+    say_use(Topic::Lookup);
+    say_use(Topic::Ask);
+    say_use(Topic::Why);
+    say_use(Topic::Caller);
+    say_use(Topic::Trace);
+    say_use(Topic::Help);
+    say_use(Topic::Version);
+    say_of_files();
+    say_of_walks();
+    say_of_numbers();
+}
+
+// What is said of the command that a word names.
+pub fn show_help_of(word: &[u8]) {
+    let topic = topic_of(word);
+    if let Topic::Unknown = topic {
+        complain_of_word(word);
+        return;
+    }
+    say_use(topic);
+    say_of_arguments(topic);
 }

@@ -8,7 +8,9 @@ use crate::line::put_offset;
 use crate::line::put_start;
 use crate::line::say_line;
 use crate::say::complain;
-use crate::say::complain_number;
+use crate::say::note;
+use crate::say::note_number;
+use crate::status::tell_refused;
 use accept::section_check::check;
 use accept::verdict::Verdict;
 use digits::Parsed;
@@ -147,15 +149,16 @@ fn show_two_in(room: &mut [u8], number: u64, index: u64) {
 
 fn show_refusal(number: u64, index: u64) {
     let mut room = blank_line();
+    tell_refused();
     show_two_in(&mut room, number, index);
-    complain(b"sframe: the section is refused; 'sframe check' says why\n");
+    note(b"sframe: the section is refused; 'sframe check' says why\n");
 }
 
 fn complain_of_index(index: u64, functions: u64) {
-    complain(b"sframe: there is no function ");
-    complain_number(index);
-    complain(b": the section has ");
-    complain_number(functions);
+    note(b"sframe: there is no function ");
+    note_number(index);
+    note(b": the section has ");
+    note_number(functions);
     complain(b"\n");
 }
 

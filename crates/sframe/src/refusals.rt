@@ -1,6 +1,13 @@
 // Refusals and endings as lines of text: the number, what it means, and what it carries.
 use crate::say::say;
 use crate::say::say_number;
+use crate::sentence::say_with_distance;
+use crate::sentence::say_with_number;
+use crate::status::tell_refused;
+use listing::function::Described;
+use listing::function::Facts;
+use listing::function::function_at;
+use numbers::offset::shift_of;
 
 // What 1 to 8 mean, the rules of a header.
 fn say_header_rule(number: u64) {
@@ -76,23 +83,23 @@ fn say_number_and_meaning(number: u64) {
     say_meaning(number);
 }
 
-fn say_function(index: u64) {
-    say(b", in function ");
-    say_number(index);
+// A number that a call gave in place of an answer.
+fn say_refusal(number: u64) {
+    tell_refused();
+    say(b"refused: ");
+    say_number_and_meaning(number);
 }
 
 // A refusal that carries no index.
 pub fn show_refused(number: u64) {
-    say(b"refused: ");
-    say_number_and_meaning(number);
+    say_refusal(number);
     say(b"\n");
 }
 
 // A refusal that concerns one function.
 pub fn show_refused_in(number: u64, function: u64) {
-    say(b"refused: ");
-    say_number_and_meaning(number);
-    say_function(function);
+    say_refusal(number);
+    say_with_number(b", in function ", function);
     say(b"\n");
 }
 
@@ -104,19 +111,42 @@ pub fn show_unsound(number: u64, index: u64) {
     }
 }
 
+fn say_facts(facts: Facts) {
+    let start = facts.start;
+    say_with_distance(b" (start ", shift_of(start));
+    say_with_number(b", size ", facts.size as u64);
+    say(b")");
+}
+
+// A function by its index, with its start, counted from the section's first byte, and its size. No answer names a function that is
+// not there.
+pub fn say_bounded(section: &[u8], before: &[u8], function: u64) {
+    say_with_number(before, function);
+    match function_at(section, function) {
+        Described::Unsound(number) => {}
+        Described::Unknown => {}
+        Described::Function(facts) => say_facts(facts),
+    }
+}
+
+// 23 and 44 of a lookup.
+pub fn show_refused_at(section: &[u8], number: u64, function: u64) {
+    say_refusal(number);
+    say_bounded(section, b", in function ", function);
+    say(b"\n");
+}
+
 // 22, with the two lowest of the functions that cover.
-pub fn show_dispute(first: u64, second: u64) {
-    say(b"refused: ");
-    say_number_and_meaning(22);
-    say(b", the first two are ");
-    say_number(first);
-    say(b" and ");
-    say_number(second);
+pub fn show_dispute(section: &[u8], first: u64, second: u64) {
+    say_refusal(22);
+    say_bounded(section, b", the first two are ", first);
+    say_bounded(section, b" and ", second);
     say(b"\n");
 }
 
 // 21 of an asked address: nothing is said of the functions that were not landed on.
 pub fn show_not_landed() {
+    tell_refused();
     say(b"refused: 21, no function that covers the PC was landed on\n");
 }
 

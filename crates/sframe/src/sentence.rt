@@ -1,8 +1,8 @@
 // Parts of sentences: text with a number behind it, in each of the forms that a number has.
 use crate::say::say;
+use crate::say::say_hex;
 use crate::say::say_number;
 use crate::say::say_word;
-use libc::STDOUT_FILENO;
 use numbers::offset::Shift;
 
 pub fn say_with_number(text: &[u8], n: u64) {
@@ -28,7 +28,7 @@ pub fn say_with_bytes(text: &[u8], n: u64) {
 // In hexadecimal, with no leading zeros.
 fn say_with_hex(text: &[u8], n: u64) {
     say(text);
-    io::print_hex(STDOUT_FILENO, n, 1);
+    say_hex(n);
 }
 
 // How far it is and in which direction, in hexadecimal, and 0 as +0x0.

@@ -1,12 +1,15 @@
 // Verdicts and the answers of a lookup as lines of text.
+use crate::hints::hint_of_unlinked;
+use crate::refusals::say_bounded;
 use crate::refusals::show_dispute;
 use crate::refusals::show_not_landed;
 use crate::refusals::show_refused;
-use crate::refusals::show_refused_in;
+use crate::refusals::show_refused_at;
 use crate::refusals::show_unsound;
 use crate::say::say;
 use crate::say::say_number;
 use crate::sentence::say_with_number;
+use crate::sentence::say_with_word;
 use accept::section_check::check;
 use accept::verdict::Verdict;
 use ask::answer::AskAnswer;
@@ -114,30 +117,53 @@ fn show_row(row: Row) {
     say(b"\n");
 }
 
-// Which row was found.
-pub fn show_which(row: Row, function: u64, number: u64) {
-    say_with_number(b"found: function ", function);
+fn show_row_found(row: Row, number: u64) {
     say_with_number(b", row ", number);
     say_with_number(b", which starts at ", row.start as u64);
     say(b"\n");
 }
 
-fn show_found(row: Row, function: u64, number: u64) {
-    show_which(row, function, number);
+// Which row was found.
+pub fn show_which(row: Row, function: u64, number: u64) {
+    say_with_number(b"found: function ", function);
+    show_row_found(row, number);
+}
+
+fn show_found(section: &[u8], row: Row, function: u64, number: u64) {
+    say_bounded(section, b"found: function ", function);
+    show_row_found(row, number);
     show_row(row);
 }
 
-fn show_outcome(outcome: Outcome) {
+// The PC of a refusal, as it was understood.
+fn show_looked_up(pc: u64) {
+    say_with_word(b"looked up: ", pc);
+    say(b"\n");
+}
+
+fn show_disputed(section: &[u8], pc: u64, first: u64, second: u64) {
+    show_dispute(section, first, second);
+    show_looked_up(pc);
+    hint_of_unlinked(section);
+}
+
+fn show_outcome(section: &[u8], pc: u64, outcome: Outcome) {
     match outcome {
         Outcome::Found {
             row,
             function,
             number,
-        } => show_found(row, function, number),
+        } => show_found(section, row, function, number),
         Outcome::Unsound { number, index } => show_unsound(number, index),
-        Outcome::NoFunction => show_refused(21),
-        Outcome::Dispute { first, second } => show_dispute(first, second),
-        Outcome::NoRow { function } => show_refused_in(23, function),
+        Outcome::NoFunction => {
+            show_refused(21);
+            show_looked_up(pc);
+        }
+        Outcome::Dispute { first, second } => show_disputed(section, pc, first, second),
+        Outcome::NoRow { function } => {
+            show_refused_at(section, 23, function);
+            show_looked_up(pc);
+        }
     }
 }
 
@@ -147,14 +173,27 @@ fn show_compared(compared: u64) {
     say(b"\n");
 }
 
-pub fn show_answer(answer: Answer) {
+pub fn show_answer(section: &[u8], pc: u64, answer: Answer) {
     let outcome = answer.outcome;
-    show_outcome(outcome);
+    show_outcome(section, pc, outcome);
     show_compared(answer.compared);
 }
 
-// The answer of an asked address. Nothing was compared where the header refuses.
-pub fn show_asked(answer: AskAnswer) {
+// What was landed on, and what is refused there.
+fn show_landed(section: &[u8], pc: u64, number: u64, function: u64, compared: u64) {
+    show_refused_at(section, number, function);
+    show_looked_up(pc);
+    show_compared(compared);
+}
+
+// A refusal by the header, where nothing was compared.
+fn show_unasked(number: u64) {
+    show_refused(number);
+    show_compared(0);
+}
+
+// The answer of an asked address.
+pub fn show_asked(section: &[u8], pc: u64, answer: AskAnswer) {
     match answer {
         AskAnswer::Found {
             function,
@@ -162,28 +201,21 @@ pub fn show_asked(answer: AskAnswer) {
             number,
             row,
         } => {
-            show_found(row, function, number);
+            show_found(section, row, function, number);
             show_compared(compared);
         }
-        AskAnswer::Unsound(number) => {
-            show_refused(number);
-            show_compared(0);
-        }
-        AskAnswer::Unsorted => {
-            show_refused(45);
-            show_compared(0);
-        }
+        AskAnswer::Unsound(number) => show_unasked(number),
+        AskAnswer::Unsorted => show_unasked(45),
         AskAnswer::NoFunction { compared } => {
             show_not_landed();
+            show_looked_up(pc);
             show_compared(compared);
         }
         AskAnswer::NoRow { function, compared } => {
-            show_refused_in(23, function);
-            show_compared(compared);
+            show_landed(section, pc, 23, function, compared)
         }
         AskAnswer::Damaged { function, compared } => {
-            show_refused_in(44, function);
-            show_compared(compared);
+            show_landed(section, pc, 44, function, compared)
         }
     }
 }

@@ -1,4 +1,5 @@
 // Why a lookup gives its answer: the answer, and below it sentences that can be checked by hand, each with its rule.
+use crate::hints::hint_of_unlinked;
 use crate::refusals::show_refused;
 use crate::refusals::show_refused_in;
 use crate::refusals::show_unsound;
@@ -237,7 +238,10 @@ pub fn show_not_found(why: NotFound) {
 pub fn show_not_found_why(section: &[u8], why: NotFound, coverers: Coverers) {
     match why {
         NotFound::NoFunction { below, above } => show_no_function(below, above),
-        NotFound::Dispute => show_dispute_why(coverers),
+        NotFound::Dispute => {
+            show_dispute_why(coverers);
+            hint_of_unlinked(section);
+        }
         NotFound::NoRow {
             function,
             offset,

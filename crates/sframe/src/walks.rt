@@ -1,8 +1,18 @@
-// One caller, why it is that, and a whole trace: the arguments that all take, and the calls.
+// One caller, why it is that, and a whole trace: the arguments that all take, the file of the stack window, and the calls.
 use crate::arguments::Loaded;
+use crate::arguments::complain_of_length;
 use crate::arguments::count_given;
 use crate::arguments::file_given;
+use crate::arguments::is_input;
 use crate::arguments::number_given;
+use crate::rooms::Largest;
+use crate::rooms::large_room;
+use crate::rooms::largest_room;
+use crate::rooms::largest_within;
+use crate::rooms::small_room;
+use crate::rooms::smallest_room;
+use crate::say::complain;
+use crate::sections::Turn;
 use crate::show_step_why::show_step_why;
 use crate::show_walks::show_limit;
 use crate::show_walks::show_step;
@@ -14,8 +24,6 @@ use trace::walk::trace;
 ghost use Prim.Native.Nat.{_≤_};
 ghost use lib.ListN.{length};
 
-// The longest stack window.
-const STACK: usize = 1_048_576;
 // Three words for each of 256 frames.
 const WORDS: usize = 768;
 
@@ -78,7 +86,7 @@ fn answer_step(why: bool, section: &[u8], stack: &[u8], process: Process, regist
         show_step_why(section, stack, process, registers);
         return;
     }
-    show_step(registers.step(section, stack, process));
+    show_step(section, registers.step(section, stack, process));
 }
 
 fn answer_caller(
@@ -126,7 +134,7 @@ fn trace_into(
 ) {
     let traced = trace(section, stack, process, registers, limit, buffer);
     let written = written_in(buffer, traced.frames);
-    show_trace(registers, traced, &buffer[..written]);
+    show_trace(section, registers, traced, &buffer[..written]);
 }
 
 fn answer_trace(
@@ -149,7 +157,7 @@ fn answer_trace(
     show_limit(limit);
 }
 
-fn answer_from(asked: Sought, section: &[u8], address: u64, stack: &[u8], given: usize) {
+fn answer_from(sought: Sought, section: &[u8], address: u64, stack: &[u8], given: usize) {
     match start_given() {
         Start::Wrong => {}
         Start::From {
@@ -161,7 +169,7 @@ fn answer_from(asked: Sought, section: &[u8], address: u64, stack: &[u8], given:
                 stack: lies,
                 mask: 0,
             };
-            match asked {
+            match sought {
                 Sought::Caller => answer_caller(false, section, stack, process, registers, given),
                 Sought::Why => answer_caller(true, section, stack, process, registers, given),
                 Sought::Trace => answer_trace(section, stack, process, registers, given),
@@ -170,17 +178,82 @@ fn answer_from(asked: Sought, section: &[u8], address: u64, stack: &[u8], given:
     }
 }
 
-fn stack_room() -> [u8; STACK + 1] {
-    [0u8; STACK + 1]
+fn walk_in(sought: Sought, section: &[u8], address: u64, given: usize, room: &mut [u8]) -> Turn {
+    match file_given(4, b"sframe: STACK", room) {
+        Loaded::Failed => Turn::Done,
+        Loaded::Long => Turn::Long,
+        Loaded::Bytes(n) => {
+            answer_from(sought, section, address, &room[..n], given);
+            Turn::Done
+        }
+    }
 }
 
-pub fn answer_walk(asked: Sought, section: &[u8], given: usize) {
+fn walk_in_smallest(sought: Sought, section: &[u8], address: u64, given: usize) -> Turn {
+    let mut room = smallest_room();
+    walk_in(sought, section, address, given, &mut room)
+}
+
+fn walk_in_small(sought: Sought, section: &[u8], address: u64, given: usize) -> Turn {
+    let mut room = small_room();
+    walk_in(sought, section, address, given, &mut room)
+}
+
+fn walk_in_large(sought: Sought, section: &[u8], address: u64, given: usize) -> Turn {
+    let mut room = large_room();
+    walk_in(sought, section, address, given, &mut room)
+}
+
+fn walk_in_largest(sought: Sought, section: &[u8], address: u64, given: usize) -> Turn {
+    let mut room = largest_room();
+    walk_in(sought, section, address, given, &mut room)
+}
+
+// As `ask_up_to` of sections, for the file of the stack window.
+fn walk_up_to(room: usize, sought: Sought, section: &[u8], address: u64, given: usize) -> Turn {
+    if 0 < room {
+        if !is_input(4) {
+            let smaller = walk_up_to(room - 1, sought, section, address, given);
+            if let Turn::Done = smaller {
+                return smaller;
+            }
+        }
+    }
+    match room {
+        0 => walk_in_smallest(sought, section, address, given),
+        1 => walk_in_small(sought, section, address, given),
+        2 => walk_in_large(sought, section, address, given),
+        _ => walk_in_largest(sought, section, address, given),
+    }
+}
+
+// The smallest room was left free for this.
+fn room_within(left: u64) -> usize {
+    match largest_within(left) {
+        Largest::Room(room) => room,
+        Largest::None => 0,
+    }
+}
+
+fn is_one_input() -> bool {
+    if is_input(2) {
+        if is_input(4) {
+            complain(b"sframe: FILE and STACK cannot both be standard input\n");
+            return false;
+        }
+    }
+    true
+}
+
+// With so much of the stack left for the room of the window.
+pub fn answer_walk(sought: Sought, section: &[u8], given: usize, left: u64) {
     let Parsed::Number(address) = number_given(3, b"ADDRESS") else {
         return;
     };
-    let mut room = stack_room();
-    match file_given(4, b"sframe: STACK", STACK as u64, &mut room) {
-        Loaded::Failed => {}
-        Loaded::Bytes(n) => answer_from(asked, section, address, &room[..n], given),
+    if is_one_input() {
+        let room = room_within(left);
+        if let Turn::Long = walk_up_to(room, sought, section, address, given) {
+            complain_of_length(4, room);
+        }
     }
 }

@@ -13,11 +13,11 @@ returns c = sym (marked-short _ (c .if1 .taken))
 
 returns-2 : tie.Need-returns-2
 unfolding marked
-returns-2 c = rw (eq-eqb _ 48 (c .before .if2 .taken))
+returns-2 c = rw (eq-eqb _ 48 (c .before .before .if2 .taken)) (c .is-x .ensures)
 
 returns-3 : tie.Need-returns-3
 unfolding marked
 returns-3 c = rw (ne-eqb _ 48 (c .if2 .left))
 
 pub is-marked-spec : {M : Type 1} → statement M
-is-marked-spec = tie.close (tie.spec returns (λ c. search needs) (λ c. search needs) returns-2 returns-3)
+is-marked-spec = tie.close (tie.spec returns (λ c. search needs) (λ c. search needs) (λ c κs. search needs) returns-2 returns-3)

@@ -12,18 +12,18 @@ use Rattle.digits.proofs.parse.Tie as tie
 long : (c : tie.Then1) → 2 ≤ length (c .before .before .before .args .text .now)
 long c = marked-long _ (sym (c .before .is-marked .ensures) ∙ c .if1 .taken)
 
-part-digits-of-start : tie.Need-part-digits-of-start
-part-digits-of-start c = let two = long c in search needs
+part-number-of-start : tie.Need-part-number-of-start
+part-number-of-start c = let two = long c in search needs
 
 returns : tie.Need-returns
 returns c =
     let told = c .before .before in
-    c .digits-of .ensures ∙ sym (hex-marked _ (sym (told .before .is-marked .ensures) ∙ told .if1 .taken))
+    c .number-of .ensures ∙ sym (hex-marked _ (sym (told .before .is-marked .ensures) ∙ told .if1 .taken))
 
 returns-2 : tie.Need-returns-2
 returns-2 c =
     let told = c .before in
-    c .digits-of2 .ensures ∙ sym (hex-plain _ (sym (told .before .is-marked .ensures) ∙ told .if1 .left))
+    c .number-of2 .ensures ∙ sym (hex-plain _ (sym (told .before .is-marked .ensures) ∙ told .if1 .left))
 
 pub parse-spec : {M : Type 1} → statement M
 parse-spec =
@@ -31,7 +31,7 @@ parse-spec =
     (tie.spec
     (λ c κs. search needs)
     long
-    part-digits-of-start
+    part-number-of-start
     (λ c. search needs)
     (λ c κs. search needs)
     returns

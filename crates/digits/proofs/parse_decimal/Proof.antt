@@ -7,7 +7,7 @@ use Rattle.digits.proofs.parse_decimal.Tie as tie
 
 returns : tie.Need-returns
 unfolding decimalOf
-returns c = c .digits-of .ensures
+returns c = c .number-of .ensures
 
 pub parse-decimal-spec : {M : Type 1} → statement M
 parse-decimal-spec = tie.close (tie.spec (λ c κs. search needs) returns)

@@ -136,9 +136,9 @@ fn print_notes() {
     );
     println!("stack: the most bytes that a call wrote below its return address, over so many calls.");
     println!(
-        "why: a whole run of the program, which reads its file, beside a run of sframe lookup; and the least limit of the"
+        "why: a whole run of the command, which reads its file, beside a run of sframe lookup; and the least limit of the"
     );
-    println!("stack, by ulimit -s, under which each answers.");
+    println!("stack, by ulimit -s, under which the proved program answers each.");
 }
 
 fn print_notes_on_asks() {

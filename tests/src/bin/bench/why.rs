@@ -1,5 +1,5 @@
 //! What a run of `sframe why` takes beside one of `sframe lookup` for the same PC, and the least limit of the stack under
-//! which each answers.
+//! which the proved program answers each.
 
 use crate::sections::name_of;
 use crate::table::{self, WhyLine};
@@ -7,15 +7,15 @@ use std::process::{Command, Stdio};
 use suntimpani_tests::program::{program, Folder};
 use suntimpani_tests::reader::functions;
 use suntimpani_tests::timing::{turn_about, Way};
-use suntimpani_tests::{cases, large, ADDRESS};
+use suntimpani_tests::{cases, in_repository, large, ADDRESS};
 
 const ROUNDS: usize = 11;
 
-/// The last is about as many as `sframe` reads.
-const SIZES: [usize; 4] = [100, 10_000, 100_000, 314_000];
+/// The last but one is about as many as the proved program reads on the usual stack, the last as many as a section has.
+const SIZES: [usize; 5] = [100, 10_000, 100_000, 314_000, 838_000];
 
 /// The highest limit that is tried, in KiB.
-const MOST_STACK: u32 = 16_384;
+const MOST_STACK: u32 = 65_536;
 
 /// A section, and a PC of which there is a row and one that no function covers.
 struct Asked {
@@ -54,9 +54,12 @@ fn line(folder: &Folder, asked: &Asked, answer: &'static str, pc: u64) -> WhyLin
     let arguments =
         |command: &str| [command.to_string(), "section".to_string(), format!("{ADDRESS:x}"), format!("{pc:x}")];
     let [why, lookup] = ["why", "lookup"].map(arguments);
+    // The command as people run it: 1 is the status of a refusal.
     let run = |arguments: &[String]| {
-        let done = program("sframe").args(arguments).current_dir(folder.path()).stdout(Stdio::null()).status();
-        assert!(done.is_ok_and(|status| status.success()), "{arguments:?}");
+        let mut command = Command::new(in_repository("bin/sframe"));
+        let done = command.args(arguments).current_dir(folder.path()).stdout(Stdio::null()).status();
+        let expected = i32::from(answer == "21");
+        assert!(done.is_ok_and(|status| status.code() == Some(expected)), "{arguments:?}");
     };
     let ways: &mut [Way] = &mut [&mut || run(&why), &mut || run(&lookup)];
     let times = turn_about(ROUNDS, ways);
@@ -64,12 +67,12 @@ fn line(folder: &Folder, asked: &Asked, answer: &'static str, pc: u64) -> WhyLin
     WhyLine { section: asked.name.clone(), answer, times, stack }
 }
 
-// By halving: the least limit, in KiB, under which the program comes to its end.
+// By halving: the least limit, in KiB, under which the program has room for the file.
 fn least_stack(folder: &Folder, arguments: &[String]) -> u32 {
     let (mut low, mut high) = (0, MOST_STACK);
     while high - low > 1 {
         let middle = (low + high) / 2;
-        if ends_under(folder, arguments, middle) {
+        if answers_under(folder, arguments, middle) {
             high = middle;
         } else {
             low = middle;
@@ -78,10 +81,10 @@ fn least_stack(folder: &Folder, arguments: &[String]) -> u32 {
     high
 }
 
-fn ends_under(folder: &Folder, arguments: &[String], limit: u32) -> bool {
+fn answers_under(folder: &Folder, arguments: &[String], limit: u32) -> bool {
     let sframe = program("sframe");
     let mut shell = Command::new("sh");
     shell.args(["-c", &format!("ulimit -s {limit} && exec \"$@\""), "sh"]).arg(sframe.get_program());
     shell.args(sframe.get_args()).args(arguments).current_dir(folder.path());
-    shell.stdout(Stdio::null()).stderr(Stdio::null()).status().is_ok_and(|status| status.success())
+    shell.output().is_ok_and(|said| said.status.success() && said.stderr.is_empty())
 }

@@ -8,10 +8,10 @@ use Rattle.sframe.proofs.arguments.read_all.Statement.{statement}
 use Rattle.sframe.proofs.arguments.read_all.Tie as tie
 
 abbrev Inv-loop : tie.InvT-loop
-Inv-loop file said most room₀ done₀ room done = (done ≤ length room) × (length room ≡ length room₀)
+Inv-loop file name room₀ done₀ room done = (done ≤ length room) × (length room ≡ length room₀)
 
 abbrev μ-loop : tie.MeasureT-loop
-μ-loop file said most room₀ done₀ room done = length room - done
+μ-loop file name room₀ done₀ room done = length room - done
 
 pub read-all-spec : {M : Type 1} → statement M
 read-all-spec =
@@ -36,6 +36,5 @@ read-all-spec =
     (λ c. search needs)
     (λ c. search needs)
     (λ c. search needs)
-    (λ c κs. search needs)
     (λ c. search needs)
     (λ c. search needs))

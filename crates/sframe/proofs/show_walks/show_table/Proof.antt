@@ -7,10 +7,10 @@ use Rattle.sframe.proofs.show_walks.show_table.Statement.{statement}
 use Rattle.sframe.proofs.show_walks.show_table.Tie as tie
 
 abbrev Inv-loop : tie.InvT-loop
-Inv-loop words at₀ at = at ≤ length words
+Inv-loop crash words at₀ pc₀ at pc = at ≤ length words
 
 abbrev μ-loop : tie.MeasureT-loop
-μ-loop words at₀ at = length words - at
+μ-loop crash words at₀ pc₀ at pc = length words - at
 
 pub show-table-spec : {M : Type 1} → statement M
 show-table-spec =
@@ -31,6 +31,9 @@ show-table-spec =
     (λ c. search needs)
     (λ c. search needs)
     (λ c κs. search needs)
+    (λ c. search needs)
+    (λ c. search needs)
+    (λ c. search needs)
     (λ c. search needs)
     (λ c. search needs)
     (λ c. search needs)
