@@ -20,7 +20,7 @@ static int comes_to_main(void) {
     suntimpani_traced traced = suntimpani_trace(seen.section.bytes, seen.section.length, seen.stack.bytes,
                                                 seen.stack.length, seen.process, seen.registers, HIGHEST, words,
                                                 3 * HIGHEST);
-    const uint64_t *last = words + 3 * (traced.frames - 1);
+    const uint64_t *last = words + 3 * (traced.frames > 0 ? traced.frames - 1 : 0);
     const frame *noted = &seen.expected[seen.outermost];
     if (traced.frames > 0 && traced.ending == OUTSIDE && last[0] == noted->cfa && last[1] == noted->ra &&
         last[2] == noted->fp) {

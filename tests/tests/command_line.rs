@@ -231,9 +231,7 @@ fn no_limit_kills_the_command() {
 fn the_longest_files_are_read_under_the_usual_limit() {
     let folder = prepared("longest");
     let commands = commands_with(&folder, "commands", &in_repository("bin/sframe"));
-    let mut section = vec![0; 16_777_216];
-    section[..78].copy_from_slice(&S);
-    section[16..20].copy_from_slice(&(16_777_216_u32 - 68).to_le_bytes());
+    let mut section = long_section(16_777_216);
     folder.put("longest", &section);
     section.push(0);
     folder.put("longer", &section);
@@ -249,6 +247,38 @@ fn the_longest_files_are_read_under_the_usual_limit() {
     let too_long = wrong::too_long("longer", 16_777_216);
     let walk = "sframe caller longest 400000 longer 7000 401044 7000 7030 0 1";
     assert_eq!(said(walk), (Some(2), String::new(), too_long));
+}
+
+/// Section S with unused row bytes behind it: it is accepted only where all of it is read.
+fn long_section(bytes: u32) -> Vec<u8> {
+    let mut section = S.to_vec();
+    section.resize(bytes as usize, 0);
+    section[16..20].copy_from_slice(&(bytes - 68).to_le_bytes());
+    section
+}
+
+// What is read from a pipe cannot be read again for a larger room: neither by its name, nor as standard input. A file that
+// is standard input is read from where it stands.
+#[test]
+fn a_pipe_is_read_whole() {
+    let folder = prepared("pipes");
+    let commands = commands_with(&folder, "commands", &in_repository("bin/sframe"));
+    let accepted = "accepted: AMD64, 2 functions, 3 rows, sorted\n";
+    for bytes in [1_000, 100_000, 2_000_000] {
+        folder.put("long", &long_section(bytes));
+        folder.put("behind", &[&[7; 10][..], &long_section(bytes)].concat());
+        for typed in [
+            "mkfifo pipe && { cat long >pipe & } && sframe check pipe; status=$?; wait; rm pipe; exit $status",
+            "cat long | sframe check /dev/stdin",
+            "cat long | sframe check -",
+            "{ head -c 10 >/dev/null; sframe check -; } <behind",
+            "sframe check long",
+        ] {
+            let (typed, output) = (typed.to_string(), accepted.to_string());
+            let line = Line { typed, output, error: String::new(), status: 0 };
+            assert_eq!(run(&folder, &commands, &line), line, "{bytes}");
+        }
+    }
 }
 
 // A proved program that is killed says no 0 at its end, and one that is not there says nothing.

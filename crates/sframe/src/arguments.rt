@@ -13,7 +13,15 @@ use crate::text::is_same;
 use digits::Parsed;
 use digits::parse;
 use digits::parse_decimal;
+use libc::SEEK_CUR;
+use libc::SEEK_SET;
 use libc::STDIN_FILENO;
+
+// A file that was opened: one that can be read only once is a pipe, or standard input, whatever that is.
+pub enum Opened {
+    File { file: i32, once: bool },
+    Failed,
+}
 
 // How many bytes of a room a file fills, that it has more than the room holds, or that it was not read.
 pub enum Loaded {
@@ -131,7 +139,37 @@ pub fn complain_of_length(i: usize, room: usize) {
     complain(b" bytes, the most that this program reads\n");
 }
 
-// Reads a file to its end. The room has a byte more than may be read, so that a longer file fills it.
+fn open_named(name: &[u8]) -> Opened {
+    if is_same(name, b"-") {
+        return Opened::File {
+            file: STDIN_FILENO,
+            once: true,
+        };
+    }
+    let file = os::open_read(name);
+    if file < 0 {
+        complain_of_file(name);
+        return Opened::Failed;
+    }
+    Opened::File {
+        file: file,
+        once: libc::lseek(file, 0, SEEK_CUR) < 0,
+    }
+}
+
+// Opens the file that argument i names. `unnamed` is what the message is about where the name itself is too long.
+pub fn open_given(i: usize, unnamed: &[u8]) -> Opened {
+    let mut name = io::buffer();
+    let n = os::arg(i, &mut name);
+    if os::errno() != 0 {
+        os::fail(unnamed);
+        tell_wrong();
+        return Opened::Failed;
+    }
+    open_named(&name[..n])
+}
+
+// Reads a file from where it stands to its end. The room has a byte more than may be read, so that a longer file fills it.
 fn read_all(file: i32, name: &[u8], room: &mut [u8]) -> Loaded
     ensures { λ r. ⌜ Within r (now (room .exit)) ⌝ }
 {
@@ -151,32 +189,21 @@ fn read_all(file: i32, name: &[u8], room: &mut [u8]) -> Loaded
     Loaded::Long
 }
 
-fn read_named(name: &[u8], room: &mut [u8]) -> Loaded
+fn read_named(file: i32, name: &[u8], room: &mut [u8]) -> Loaded
     ensures { λ r. ⌜ Within r (now (room .exit)) ⌝ }
 {
     if is_same(name, b"-") {
-        return read_all(STDIN_FILENO, b"standard input", room);
+        return read_all(file, b"standard input", room);
     }
-    let file = os::open_read(name);
-    if file < 0 {
-        complain_of_file(name);
-        return Loaded::Failed;
-    }
-    let loaded = read_all(file, name, room);
-    libc::close(file);
-    loaded
+    libc::lseek(file, 0, SEEK_SET);
+    read_all(file, name, room)
 }
 
-// Reads the file that argument i names. `unnamed` is what the message is about where the name itself is too long.
-pub fn file_given(i: usize, unnamed: &[u8], room: &mut [u8]) -> Loaded
+// Reads the file that argument i names and that was opened, from its beginning where it can be read again.
+pub fn read_given(i: usize, file: i32, room: &mut [u8]) -> Loaded
     ensures { λ r. ⌜ Within r (now (room .exit)) ⌝ }
 {
     let mut name = io::buffer();
     let n = os::arg(i, &mut name);
-    if os::errno() != 0 {
-        os::fail(unnamed);
-        tell_wrong();
-        return Loaded::Failed;
-    }
-    read_named(&name[..n], room)
+    read_named(file, &name[..n], room)
 }

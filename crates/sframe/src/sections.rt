@@ -2,9 +2,10 @@
 use crate::answers::Question;
 use crate::answers::answer;
 use crate::arguments::Loaded;
+use crate::arguments::Opened;
 use crate::arguments::complain_of_length;
-use crate::arguments::file_given;
-use crate::arguments::is_input;
+use crate::arguments::open_given;
+use crate::arguments::read_given;
 use crate::rooms::LARGEST;
 use crate::rooms::Largest;
 use crate::rooms::bytes_of;
@@ -36,8 +37,8 @@ fn ask_of_long(question: Question, section: &[u8], given: usize, left: u64) -> T
 }
 
 // Argument 2 is the section, whatever is asked.
-fn ask_in(question: Question, given: usize, left: u64, room: &mut [u8]) -> Turn {
-    match file_given(2, b"sframe: FILE", room) {
+fn ask_in(file: i32, question: Question, given: usize, left: u64, room: &mut [u8]) -> Turn {
+    match read_given(2, file, room) {
         Loaded::Failed => Turn::Done,
         Loaded::Long => ask_of_long(question, room, given, left),
         Loaded::Bytes(n) => {
@@ -47,32 +48,39 @@ fn ask_in(question: Question, given: usize, left: u64, room: &mut [u8]) -> Turn 
     }
 }
 
-fn ask_in_smallest(question: Question, given: usize, left: u64) -> Turn {
+fn ask_in_smallest(file: i32, question: Question, given: usize, left: u64) -> Turn {
     let mut room = smallest_room();
-    ask_in(question, given, left, &mut room)
+    ask_in(file, question, given, left, &mut room)
 }
 
-fn ask_in_small(question: Question, given: usize, left: u64) -> Turn {
+fn ask_in_small(file: i32, question: Question, given: usize, left: u64) -> Turn {
     let mut room = small_room();
-    ask_in(question, given, left, &mut room)
+    ask_in(file, question, given, left, &mut room)
 }
 
-fn ask_in_large(question: Question, given: usize, left: u64) -> Turn {
+fn ask_in_large(file: i32, question: Question, given: usize, left: u64) -> Turn {
     let mut room = large_room();
-    ask_in(question, given, left, &mut room)
+    ask_in(file, question, given, left, &mut room)
 }
 
-fn ask_in_largest(question: Question, given: usize, left: u64) -> Turn {
+fn ask_in_largest(file: i32, question: Question, given: usize, left: u64) -> Turn {
     let mut room = largest_room();
-    ask_in(question, given, left, &mut room)
+    ask_in(file, question, given, left, &mut room)
 }
 
-// Asks in the smallest of the rooms up to this one that holds the file. Standard input can be read only once, and so in this room.
+// Asks in the smallest of the rooms up to this one that holds the file; what can be read only once goes into this one.
 // The recursion keeps the rooms apart: a compiler that put them all into one frame would ask for the sum of them, whatever the file is.
-fn ask_up_to(room: usize, question: Question, given: usize, left: u64) -> Turn {
+fn ask_up_to(
+    room: usize,
+    file: i32,
+    once: bool,
+    question: Question,
+    given: usize,
+    left: u64,
+) -> Turn {
     if 0 < room {
-        if !is_input(2) {
-            let smaller = ask_up_to(room - 1, question, given, left);
+        if !once {
+            let smaller = ask_up_to(room - 1, file, once, question, given, left);
             if let Turn::Done = smaller {
                 return smaller;
             }
@@ -80,10 +88,10 @@ fn ask_up_to(room: usize, question: Question, given: usize, left: u64) -> Turn {
     }
     let rest = without(left, bytes_of(room));
     match room {
-        0 => ask_in_smallest(question, given, rest),
-        1 => ask_in_small(question, given, rest),
-        2 => ask_in_large(question, given, rest),
-        _ => ask_in_largest(question, given, rest),
+        0 => ask_in_smallest(file, question, given, rest),
+        1 => ask_in_small(file, question, given, rest),
+        2 => ask_in_large(file, question, given, rest),
+        _ => ask_in_largest(file, question, given, rest),
     }
 }
 
@@ -93,14 +101,22 @@ fn complain_of_stack() {
     complain(b" bytes leaves no room to read a file: 'ulimit -s' raises it\n");
 }
 
+// With so much of the stack left, of which this is the largest room.
+fn ask_opened(question: Question, given: usize, left: u64, room: usize) {
+    match open_given(2, b"sframe: FILE") {
+        Opened::Failed => {}
+        Opened::File { file, once } => {
+            if let Turn::Long = ask_up_to(room, file, once, question, given, left) {
+                complain_of_length(2, room);
+            }
+        }
+    }
+}
+
 pub fn ask(question: Question, given: usize) {
     let left = left_for_rooms();
     match largest_within(left) {
         Largest::None => complain_of_stack(),
-        Largest::Room(room) => {
-            if let Turn::Long = ask_up_to(room, question, given, left) {
-                complain_of_length(2, room);
-            }
-        }
+        Largest::Room(room) => ask_opened(question, given, left, room),
     }
 }

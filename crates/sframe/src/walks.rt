@@ -1,10 +1,12 @@
 // One caller, why it is that, and a whole trace: the arguments that all take, the file of the stack window, and the calls.
 use crate::arguments::Loaded;
+use crate::arguments::Opened;
 use crate::arguments::complain_of_length;
 use crate::arguments::count_given;
-use crate::arguments::file_given;
 use crate::arguments::is_input;
 use crate::arguments::number_given;
+use crate::arguments::open_given;
+use crate::arguments::read_given;
 use crate::rooms::Largest;
 use crate::rooms::large_room;
 use crate::rooms::largest_room;
@@ -178,8 +180,15 @@ fn answer_from(sought: Sought, section: &[u8], address: u64, stack: &[u8], given
     }
 }
 
-fn walk_in(sought: Sought, section: &[u8], address: u64, given: usize, room: &mut [u8]) -> Turn {
-    match file_given(4, b"sframe: STACK", room) {
+fn walk_in(
+    file: i32,
+    sought: Sought,
+    section: &[u8],
+    address: u64,
+    given: usize,
+    room: &mut [u8],
+) -> Turn {
+    match read_given(4, file, room) {
         Loaded::Failed => Turn::Done,
         Loaded::Long => Turn::Long,
         Loaded::Bytes(n) => {
@@ -189,41 +198,49 @@ fn walk_in(sought: Sought, section: &[u8], address: u64, given: usize, room: &mu
     }
 }
 
-fn walk_in_smallest(sought: Sought, section: &[u8], address: u64, given: usize) -> Turn {
+fn walk_in_smallest(file: i32, sought: Sought, section: &[u8], address: u64, given: usize) -> Turn {
     let mut room = smallest_room();
-    walk_in(sought, section, address, given, &mut room)
+    walk_in(file, sought, section, address, given, &mut room)
 }
 
-fn walk_in_small(sought: Sought, section: &[u8], address: u64, given: usize) -> Turn {
+fn walk_in_small(file: i32, sought: Sought, section: &[u8], address: u64, given: usize) -> Turn {
     let mut room = small_room();
-    walk_in(sought, section, address, given, &mut room)
+    walk_in(file, sought, section, address, given, &mut room)
 }
 
-fn walk_in_large(sought: Sought, section: &[u8], address: u64, given: usize) -> Turn {
+fn walk_in_large(file: i32, sought: Sought, section: &[u8], address: u64, given: usize) -> Turn {
     let mut room = large_room();
-    walk_in(sought, section, address, given, &mut room)
+    walk_in(file, sought, section, address, given, &mut room)
 }
 
-fn walk_in_largest(sought: Sought, section: &[u8], address: u64, given: usize) -> Turn {
+fn walk_in_largest(file: i32, sought: Sought, section: &[u8], address: u64, given: usize) -> Turn {
     let mut room = largest_room();
-    walk_in(sought, section, address, given, &mut room)
+    walk_in(file, sought, section, address, given, &mut room)
 }
 
 // As `ask_up_to` of sections, for the file of the stack window.
-fn walk_up_to(room: usize, sought: Sought, section: &[u8], address: u64, given: usize) -> Turn {
+fn walk_up_to(
+    room: usize,
+    file: i32,
+    once: bool,
+    sought: Sought,
+    section: &[u8],
+    address: u64,
+    given: usize,
+) -> Turn {
     if 0 < room {
-        if !is_input(4) {
-            let smaller = walk_up_to(room - 1, sought, section, address, given);
+        if !once {
+            let smaller = walk_up_to(room - 1, file, once, sought, section, address, given);
             if let Turn::Done = smaller {
                 return smaller;
             }
         }
     }
     match room {
-        0 => walk_in_smallest(sought, section, address, given),
-        1 => walk_in_small(sought, section, address, given),
-        2 => walk_in_large(sought, section, address, given),
-        _ => walk_in_largest(sought, section, address, given),
+        0 => walk_in_smallest(file, sought, section, address, given),
+        1 => walk_in_small(file, sought, section, address, given),
+        2 => walk_in_large(file, sought, section, address, given),
+        _ => walk_in_largest(file, sought, section, address, given),
     }
 }
 
@@ -245,15 +262,24 @@ fn is_one_input() -> bool {
     true
 }
 
+// In this room, or a smaller one.
+fn walk_opened(sought: Sought, section: &[u8], address: u64, given: usize, room: usize) {
+    match open_given(4, b"sframe: STACK") {
+        Opened::Failed => {}
+        Opened::File { file, once } => {
+            if let Turn::Long = walk_up_to(room, file, once, sought, section, address, given) {
+                complain_of_length(4, room);
+            }
+        }
+    }
+}
+
 // With so much of the stack left for the room of the window.
 pub fn answer_walk(sought: Sought, section: &[u8], given: usize, left: u64) {
     let Parsed::Number(address) = number_given(3, b"ADDRESS") else {
         return;
     };
     if is_one_input() {
-        let room = room_within(left);
-        if let Turn::Long = walk_up_to(room, sought, section, address, given) {
-            complain_of_length(4, room);
-        }
+        walk_opened(sought, section, address, given, room_within(left));
     }
 }

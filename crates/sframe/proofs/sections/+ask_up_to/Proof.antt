@@ -8,7 +8,6 @@ use borrow.Fn.PlainCycle.{Measures, is, falls, and}
 use Rattle.sframe.proofs.sections.ask_up_to.Reads as ask-up-to
 use Rattle.sframe.proofs.sections.ask_up_to.Kinds as ask-up-to-kinds
 use Rattle.sframe.proofs.sections.+ask_up_to.Lts-ask_up_to as ask-up-to-lts
-use Rattle.sframe.proofs.arguments.is_input.Reads as is-input-reads
 use Rattle.sframe.proofs.rooms.bytes_of.Reads as bytes-of-reads
 use Rattle.sframe.proofs.rooms.without.Reads as without-reads
 use Rattle.sframe.proofs.sections.ask_in_large.Reads as ask-in-large-reads
@@ -28,8 +27,8 @@ ask-up-to-at t = and 0 ask-up-to-kinds.ps (is 0 ask-up-to-kinds.ps μ-ask-up-to 
 abbrev ask-up-to-below : ℕ → In 0 ask-up-to-kinds.ps
 ask-up-to-below t = and 0 ask-up-to-kinds.ps (falls 0 ask-up-to-kinds.ps _<_ μ-ask-up-to t) ask-up-to.Pre
 
-ask-up-to-requires : (t : ℕ) → ask-up-to-lts.Need-ask-up-to-requires (is-input-reads.Asked, is-input-reads.Learnt, ask-up-to-below t, ask-up-to.Post, bytes-of-reads.Asked, bytes-of-reads.Learnt, without-reads.Asked, without-reads.Learnt, ask-in-smallest-reads.Asked, ask-in-smallest-reads.Learnt, ask-in-small-reads.Asked, ask-in-small-reads.Learnt, ask-in-large-reads.Asked, ask-in-large-reads.Learnt, ask-in-largest-reads.Asked, ask-in-largest-reads.Learnt) (ask-up-to-at t) ask-up-to.Post
-ask-up-to-requires t c κs = (omega (arith, c .before .before .before .pre .0), tt)
+ask-up-to-requires : (t : ℕ) → ask-up-to-lts.Need-ask-up-to-requires (ask-up-to-below t, ask-up-to.Post, bytes-of-reads.Asked, bytes-of-reads.Learnt, without-reads.Asked, without-reads.Learnt, ask-in-smallest-reads.Asked, ask-in-smallest-reads.Learnt, ask-in-small-reads.Asked, ask-in-small-reads.Learnt, ask-in-large-reads.Asked, ask-in-large-reads.Learnt, ask-in-largest-reads.Asked, ask-in-largest-reads.Learnt) (ask-up-to-at t) ask-up-to.Post
+ask-up-to-requires t c κs = (omega (arith, c .before .before .pre .0), tt)
 
 pub +ask-up-to-spec : {M : Type 1} → statement M
 +ask-up-to-spec =
@@ -37,10 +36,9 @@ pub +ask-up-to-spec : {M : Type 1} → statement M
     μ-ask-up-to
     (λ t.
     ask-up-to-lts.spec
-    (is-input-reads.Asked, is-input-reads.Learnt, ask-up-to-below t, ask-up-to.Post, bytes-of-reads.Asked, bytes-of-reads.Learnt, without-reads.Asked, without-reads.Learnt, ask-in-smallest-reads.Asked, ask-in-smallest-reads.Learnt, ask-in-small-reads.Asked, ask-in-small-reads.Learnt, ask-in-large-reads.Asked, ask-in-large-reads.Learnt, ask-in-largest-reads.Asked, ask-in-largest-reads.Learnt)
+    (ask-up-to-below t, ask-up-to.Post, bytes-of-reads.Asked, bytes-of-reads.Learnt, without-reads.Asked, without-reads.Learnt, ask-in-smallest-reads.Asked, ask-in-smallest-reads.Learnt, ask-in-small-reads.Asked, ask-in-small-reads.Learnt, ask-in-large-reads.Asked, ask-in-large-reads.Learnt, ask-in-largest-reads.Asked, ask-in-largest-reads.Learnt)
     (ask-up-to-at t)
     ask-up-to.Post
-    (λ c κs. search needs)
     (λ c. search needs)
     (ask-up-to-requires t)
     (λ c. search needs)

@@ -8,7 +8,6 @@ use borrow.Fn.PlainCycle.{Measures, is, falls, and}
 use Rattle.sframe.proofs.walks.walk_up_to.Reads as walk-up-to
 use Rattle.sframe.proofs.walks.walk_up_to.Kinds as walk-up-to-kinds
 use Rattle.sframe.proofs.walks.+walk_up_to.Lts-walk_up_to as walk-up-to-lts
-use Rattle.sframe.proofs.arguments.is_input.Reads as is-input-reads
 use Rattle.sframe.proofs.walks.walk_in_large.Reads as walk-in-large-reads
 use Rattle.sframe.proofs.walks.walk_in_largest.Reads as walk-in-largest-reads
 use Rattle.sframe.proofs.walks.walk_in_small.Reads as walk-in-small-reads
@@ -26,8 +25,8 @@ walk-up-to-at t = and 1 walk-up-to-kinds.ps (is 1 walk-up-to-kinds.ps μ-walk-up
 abbrev walk-up-to-below : ℕ → In 1 walk-up-to-kinds.ps
 walk-up-to-below t = and 1 walk-up-to-kinds.ps (falls 1 walk-up-to-kinds.ps _<_ μ-walk-up-to t) walk-up-to.Pre
 
-walk-up-to-requires : (t : ℕ) → walk-up-to-lts.Need-walk-up-to-requires (is-input-reads.Asked, is-input-reads.Learnt, walk-up-to-below t, walk-up-to.Post, walk-in-smallest-reads.Asked, walk-in-smallest-reads.Learnt, walk-in-small-reads.Asked, walk-in-small-reads.Learnt, walk-in-large-reads.Asked, walk-in-large-reads.Learnt, walk-in-largest-reads.Asked, walk-in-largest-reads.Learnt) (walk-up-to-at t) walk-up-to.Post
-walk-up-to-requires t c κs = (omega (arith, c .before .before .before .before .pre .0), tt)
+walk-up-to-requires : (t : ℕ) → walk-up-to-lts.Need-walk-up-to-requires (walk-up-to-below t, walk-up-to.Post, walk-in-smallest-reads.Asked, walk-in-smallest-reads.Learnt, walk-in-small-reads.Asked, walk-in-small-reads.Learnt, walk-in-large-reads.Asked, walk-in-large-reads.Learnt, walk-in-largest-reads.Asked, walk-in-largest-reads.Learnt) (walk-up-to-at t) walk-up-to.Post
+walk-up-to-requires t c κs = (omega (arith, c .before .before .before .pre .0), tt)
 
 pub +walk-up-to-spec : {M : Type 1} → statement M
 +walk-up-to-spec =
@@ -35,10 +34,9 @@ pub +walk-up-to-spec : {M : Type 1} → statement M
     μ-walk-up-to
     (λ t.
     walk-up-to-lts.spec
-    (is-input-reads.Asked, is-input-reads.Learnt, walk-up-to-below t, walk-up-to.Post, walk-in-smallest-reads.Asked, walk-in-smallest-reads.Learnt, walk-in-small-reads.Asked, walk-in-small-reads.Learnt, walk-in-large-reads.Asked, walk-in-large-reads.Learnt, walk-in-largest-reads.Asked, walk-in-largest-reads.Learnt)
+    (walk-up-to-below t, walk-up-to.Post, walk-in-smallest-reads.Asked, walk-in-smallest-reads.Learnt, walk-in-small-reads.Asked, walk-in-small-reads.Learnt, walk-in-large-reads.Asked, walk-in-large-reads.Learnt, walk-in-largest-reads.Asked, walk-in-largest-reads.Learnt)
     (walk-up-to-at t)
     walk-up-to.Post
-    (λ c κs. search needs)
     (λ c. search needs)
     (walk-up-to-requires t)
     (λ c. search needs)
