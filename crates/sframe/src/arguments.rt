@@ -118,6 +118,15 @@ pub fn note_given(i: usize) {
     note_argument(&given[..n]);
 }
 
+// The file that argument i names, as a part of a message.
+pub fn note_file(i: usize) {
+    if is_input(i) {
+        note(b"standard input");
+        return;
+    }
+    note_given(i);
+}
+
 // What went wrong with a file. The parts before `fail`, which reads errno, leave errno as it is.
 fn complain_of_file(name: &[u8]) {
     note(b"sframe: ");
@@ -129,7 +138,7 @@ fn complain_of_file(name: &[u8]) {
 // A file that is longer than the largest room that can be had.
 pub fn complain_of_length(i: usize, room: usize) {
     note(b"sframe: ");
-    note_given(i);
+    note_file(i);
     note(b": more than ");
     note_number(bytes_of(room));
     if bytes_of(room) < LARGEST as u64 {

@@ -1,4 +1,6 @@
 // What may help where a file is not what it was taken for: it goes to standard error, beside the answer.
+use crate::arguments::is_input;
+use crate::arguments::note_file;
 use crate::arguments::note_given;
 use crate::say::note;
 use crate::say::note_number;
@@ -7,20 +9,28 @@ use numbers::field::Number;
 use numbers::field::Order;
 use numbers::field::number_at;
 
-// Argument 2 is the section's file.
+// Argument 2 is the section's file: here the program that it is taken from.
+fn note_program() {
+    if is_input(2) {
+        note(b"PROGRAM");
+        return;
+    }
+    note_given(2);
+}
+
 fn hint_of_elf() {
     note(b"sframe: ");
-    note_given(2);
+    note_file(2);
     note(
         b" is an ELF file, not the bytes of a section. Its section is taken out by\n    objcopy -O binary --only-section=.sframe ",
     );
-    note_given(2);
+    note_program();
     note(b" section.sframe\n");
 }
 
 fn hint_of_empty() {
     note(b"sframe: ");
-    note_given(2);
+    note_file(2);
     note(
         b" is empty: was it taken from a program that has no .sframe section? 'readelf -SW PROGRAM' lists its sections\n",
     );
@@ -28,7 +38,7 @@ fn hint_of_empty() {
 
 fn hint_of_version(version: u8) {
     note(b"sframe: ");
-    note_given(2);
+    note_file(2);
     note(b" is a section of version ");
     note_number(version as u64);
     note(b", and version 2 is read, which GNU binutils 2.41 to 2.45 write\n");

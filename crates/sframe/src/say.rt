@@ -11,6 +11,15 @@ pub fn is_output_open() -> bool {
     os::errno() != libc::EBADF
 }
 
+// One that is open, but not for writing. Where it is closed, that was told before.
+fn close_unwritable() {
+    if is_output_open() {
+        note(b"sframe: standard output is not open for writing\n");
+        libc::close(STDOUT_FILENO);
+        tell_wrong();
+    }
+}
+
 // A write that failed is told once: standard output is closed with it, so that nothing stands behind a gap, and every later write
 // fails because it is closed.
 fn keep(written: bool) {
@@ -18,6 +27,7 @@ fn keep(written: bool) {
         return;
     }
     if os::errno() == libc::EBADF {
+        close_unwritable();
         return;
     }
     os::fail(b"sframe: standard output");

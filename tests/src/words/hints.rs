@@ -5,7 +5,8 @@ use super::wrong::visible;
 
 /// Of a file with these bytes in the place of a section: that it is ELF, empty, or of another version than 2.
 pub fn of_file(file: &str, bytes: &[u8]) -> String {
-    let file = visible(file.as_bytes());
+    let visible = visible(file.as_bytes());
+    let (file, program) = if file == "-" { ("standard input", "PROGRAM") } else { (&visible[..], &visible[..]) };
     match bytes {
         [] => format!(
             "sframe: {file} is empty: was it taken from a program that has no .sframe section? \
@@ -13,7 +14,7 @@ pub fn of_file(file: &str, bytes: &[u8]) -> String {
         ),
         [0x7f, b'E', b'L', b'F', ..] => format!(
             "sframe: {file} is an ELF file, not the bytes of a section. Its section is taken out by\n    \
-             objcopy -O binary --only-section=.sframe {file} section.sframe\n"
+             objcopy -O binary --only-section=.sframe {program} section.sframe\n"
         ),
         [0xe2, 0xde, version, ..] | [0xde, 0xe2, version, ..] if *version != 2 => format!(
             "sframe: {file} is a section of version {version}, and version 2 is read, which GNU binutils 2.41 to 2.45 \
@@ -54,6 +55,9 @@ mod tests {
         assert!(of_file("a", b"").starts_with("sframe: a is empty: "));
         let elf = of_file("a\n", b"\x7fELF");
         assert!(elf.contains("\n    objcopy -O binary --only-section=.sframe a\\x0a section.sframe\n"), "{elf}");
+        let piped = of_file("-", b"\x7fELF");
+        assert!(piped.starts_with("sframe: standard input is an ELF file"), "{piped}");
+        assert!(piped.ends_with(" --only-section=.sframe PROGRAM section.sframe\n"), "{piped}");
         let other = [[0xe2, 0xde, 1], [0xde, 0xe2, 3]].map(|section| of_file("a", &section));
         let said = |version| format!("sframe: a is a section of version {version}, and version 2 is read");
         assert!((1..).step_by(2).zip(&other).all(|(version, text)| text.starts_with(&said(version))), "{other:?}");
