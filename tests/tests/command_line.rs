@@ -343,10 +343,10 @@ fn what_is_installed_answers_and_goes_again() {
     let folder = prepared("install");
     let root = folder.path().join("root");
     let at = format!("DESTDIR={}", root.display());
-    let installed = make(&["install", &at, "PREFIX=/opt/some"]);
+    let installed = make(&["install", &at, "PREFIX=/some/prefix"]);
     assert!(installed.status.success(), "{}", text(installed.stderr));
     assert_eq!(text(installed.stderr), "", "nothing is proved again");
-    let below = root.join("opt/some");
+    let below = root.join("some/prefix");
     let files = ["bin/sframe", "bin/sframe-proved", "include/suntimpani.h", "lib/libsuntimpani.a"];
     assert_eq!(files_below(&below), [&files[..], &["lib/pkgconfig/suntimpani.pc"]].concat());
     if cfg!(target_arch = "x86_64") {
@@ -360,7 +360,7 @@ fn what_is_installed_answers_and_goes_again() {
         };
         assert_eq!(run(&folder, &below.join("bin"), &line), line);
     }
-    assert!(make(&["uninstall", &at, "PREFIX=/opt/some"]).status.success());
+    assert!(make(&["uninstall", &at, "PREFIX=/some/prefix"]).status.success());
     assert_eq!(files_below(&root), [""; 0]);
 }
 

@@ -453,8 +453,7 @@ fn a_stack_is_read_up_to_its_most_bytes() {
     }
 }
 
-// From next to nothing to more than the usual: the program answers, or says that there is no room, and is never killed. An
-// environment of 100,000 bytes is on the stack too.
+// From next to nothing to more than the usual: the program answers, or says that there is no room, and is never killed.
 #[test]
 fn no_stack_limit_kills_the_program() {
     let folder = Folder::of("limits");

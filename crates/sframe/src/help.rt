@@ -6,7 +6,7 @@ use crate::say::say;
 use crate::text::is_same;
 
 // What a person can ask for.
-pub enum Topic {
+pub enum Command {
     Check,
     List,
     Lookup,
@@ -19,53 +19,53 @@ pub enum Topic {
     Unknown,
 }
 
-fn own_topic_of(word: &[u8]) -> Topic {
+fn own_command_of(word: &[u8]) -> Command {
     if is_same(word, b"help") {
-        return Topic::Help;
+        return Command::Help;
     }
     if is_same(word, b"--help") {
-        return Topic::Help;
+        return Command::Help;
     }
     if is_same(word, b"-h") {
-        return Topic::Help;
+        return Command::Help;
     }
     if is_same(word, b"version") {
-        return Topic::Version;
+        return Command::Version;
     }
     if is_same(word, b"--version") {
-        return Topic::Version;
+        return Command::Version;
     }
-    Topic::Unknown
+    Command::Unknown
 }
 
-fn walk_topic_of(word: &[u8]) -> Topic {
+fn walk_command_of(word: &[u8]) -> Command {
     if is_same(word, b"why") {
-        return Topic::Why;
+        return Command::Why;
     }
     if is_same(word, b"caller") {
-        return Topic::Caller;
+        return Command::Caller;
     }
     if is_same(word, b"trace") {
-        return Topic::Trace;
+        return Command::Trace;
     }
-    own_topic_of(word)
+    own_command_of(word)
 }
 
 // The command that a word names.
-pub fn topic_of(word: &[u8]) -> Topic {
+pub fn command_of(word: &[u8]) -> Command {
     if is_same(word, b"check") {
-        return Topic::Check;
+        return Command::Check;
     }
     if is_same(word, b"list") {
-        return Topic::List;
+        return Command::List;
     }
     if is_same(word, b"lookup") {
-        return Topic::Lookup;
+        return Command::Lookup;
     }
     if is_same(word, b"ask") {
-        return Topic::Ask;
+        return Command::Ask;
     }
-    walk_topic_of(word)
+    walk_command_of(word)
 }
 
 // A word that names no command.
@@ -75,41 +75,33 @@ pub fn complain_of_word(word: &[u8]) {
     complain(b"' is no command; 'sframe help' lists them\n");
 }
 
-fn say_use(topic: Topic) {
-    match topic {
-        Topic::Check => {
+// How the program itself is asked.
+fn say_use_of_itself(command: Command) {
+    match command {
+        Command::Help => {
             say(
                 b"\
-sframe check FILE
-    whether a section is accepted, else the first broken rule
+sframe help [COMMAND]
+    this text, or what it says of one command; also --help, -h, and COMMAND --help
 ",
             );
         }
-        Topic::List => {
+        Command::Version => {
             say(
                 b"\
-sframe list FILE [INDEX]
-    every function and row of a section, or one function by its index
+sframe version
+    the version of this program; also --version
 ",
             );
         }
-        Topic::Lookup => {
-            say(
-                b"\
-sframe lookup FILE ADDRESS PC...
-    the function and the row for each PC
-",
-            );
-        }
-        Topic::Ask => {
-            say(
-                b"\
-sframe ask FILE ADDRESS PC...
-    the same without a check of the whole section: only what the answer needs is read
-",
-            );
-        }
-        Topic::Why => {
+        _ => {},
+    }
+}
+
+// How a step, a trace and why are asked for.
+fn say_use_of_walk(command: Command) {
+    match command {
+        Command::Why => {
             say(
                 b"\
 sframe why FILE ADDRESS PC
@@ -118,7 +110,7 @@ sframe why FILE ADDRESS STACK STACK_ADDRESS PC SP FP LR FIRST MASK
 ",
             );
         }
-        Topic::Caller => {
+        Command::Caller => {
             say(
                 b"\
 sframe caller FILE ADDRESS STACK STACK_ADDRESS PC SP FP LR FIRST [MASK]
@@ -126,7 +118,7 @@ sframe caller FILE ADDRESS STACK STACK_ADDRESS PC SP FP LR FIRST [MASK]
 ",
             );
         }
-        Topic::Trace => {
+        Command::Trace => {
             say(
                 b"\
 sframe trace FILE ADDRESS STACK STACK_ADDRESS PC SP FP LR LIMIT [MASK]
@@ -134,23 +126,46 @@ sframe trace FILE ADDRESS STACK STACK_ADDRESS PC SP FP LR LIMIT [MASK]
 ",
             );
         }
-        Topic::Help => {
+        _ => say_use_of_itself(command),
+    }
+}
+
+// How a command is typed, and what it is for.
+fn say_use(command: Command) {
+    match command {
+        Command::Check => {
             say(
                 b"\
-sframe help [COMMAND]
-    this text, or what it says of one command; also --help, -h, and COMMAND --help
+sframe check FILE
+    whether a section is accepted, else the first broken rule
 ",
             );
         }
-        Topic::Version => {
+        Command::List => {
             say(
                 b"\
-sframe version
-    the version of this program; also --version
+sframe list FILE [INDEX]
+    every function and row of a section, or one function by its index
 ",
             );
         }
-        Topic::Unknown => {}
+        Command::Lookup => {
+            say(
+                b"\
+sframe lookup FILE ADDRESS PC...
+    the function and the row for each PC
+",
+            );
+        }
+        Command::Ask => {
+            say(
+                b"\
+sframe ask FILE ADDRESS PC...
+    the same without a check of the whole section: only what the answer needs is read
+",
+            );
+        }
+        _ => say_use_of_walk(command),
     }
 }
 
@@ -188,32 +203,32 @@ and 2 where the command line is wrong, a file cannot be read or the answer canno
 }
 
 // What the arguments of one command are.
-fn say_of_arguments(topic: Topic) {
-    match topic {
-        Topic::Check | Topic::List | Topic::Lookup | Topic::Ask => {
+fn say_of_arguments(command: Command) {
+    match command {
+        Command::Check | Command::List | Command::Lookup | Command::Ask => {
             say_of_files();
             say_of_numbers();
         }
-        Topic::Why | Topic::Caller | Topic::Trace => {
+        Command::Why | Command::Caller | Command::Trace => {
             say_of_files();
             say_of_walks();
             say_of_numbers();
         }
-        Topic::Help | Topic::Version | Topic::Unknown => {}
+        Command::Help | Command::Version | Command::Unknown => {}
     }
 }
 
 // All of it.
 pub fn show_help() {
-    say_use(Topic::Check);
-    say_use(Topic::List);
-    say_use(Topic::Lookup);
-    say_use(Topic::Ask);
-    say_use(Topic::Why);
-    say_use(Topic::Caller);
-    say_use(Topic::Trace);
-    say_use(Topic::Help);
-    say_use(Topic::Version);
+    say_use(Command::Check);
+    say_use(Command::List);
+    say_use(Command::Lookup);
+    say_use(Command::Ask);
+    say_use(Command::Why);
+    say_use(Command::Caller);
+    say_use(Command::Trace);
+    say_use(Command::Help);
+    say_use(Command::Version);
     say_of_files();
     say_of_walks();
     say_of_numbers();
@@ -221,11 +236,11 @@ pub fn show_help() {
 
 // What is said of the command that a word names.
 pub fn show_help_of(word: &[u8]) {
-    let topic = topic_of(word);
-    if let Topic::Unknown = topic {
+    let command = command_of(word);
+    if let Command::Unknown = command {
         complain_of_word(word);
         return;
     }
-    say_use(topic);
-    say_of_arguments(topic);
+    say_use(command);
+    say_of_arguments(command);
 }

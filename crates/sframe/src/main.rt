@@ -23,11 +23,11 @@ mod walks;
 
 use crate::answers::Question;
 use crate::arguments::is_argument;
-use crate::help::Topic;
+use crate::help::Command;
+use crate::help::command_of;
 use crate::help::complain_of_word;
 use crate::help::show_help;
 use crate::help::show_help_of;
-use crate::help::topic_of;
 use crate::say::complain;
 use crate::say::is_output_open;
 use crate::sections::ask;
@@ -139,17 +139,17 @@ fn answer_version(given: usize) {
 }
 
 fn run(word: &[u8], given: usize) {
-    match topic_of(word) {
-        Topic::Check => ask_check(given),
-        Topic::List => ask_list(given),
-        Topic::Lookup => ask_lookup(given),
-        Topic::Ask => ask_ask(given),
-        Topic::Why => ask_why(given),
-        Topic::Caller => ask_caller(given),
-        Topic::Trace => ask_trace(given),
-        Topic::Help => answer_help(given),
-        Topic::Version => answer_version(given),
-        Topic::Unknown => complain_of_word(word),
+    match command_of(word) {
+        Command::Check => ask_check(given),
+        Command::List => ask_list(given),
+        Command::Lookup => ask_lookup(given),
+        Command::Ask => ask_ask(given),
+        Command::Why => ask_why(given),
+        Command::Caller => ask_caller(given),
+        Command::Trace => ask_trace(given),
+        Command::Help => answer_help(given),
+        Command::Version => answer_version(given),
+        Command::Unknown => complain_of_word(word),
     }
 }
 

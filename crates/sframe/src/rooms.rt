@@ -92,36 +92,20 @@ fn find(text: &[u8], sought: &[u8]) -> Found {
     Found::Nowhere
 }
 
-fn is_blank(byte: u8) -> bool {
+// Whether a byte is a digit, or else a blank.
+fn is_either(digit: bool, byte: u8) -> bool {
     match byte {
-        b' ' | b'\t' => true,
+        b'0'..=b'9' => digit,
+        b' ' | b'\t' => !digit,
         _ => false,
     }
 }
 
-fn is_digit(byte: u8) -> bool {
-    match byte {
-        b'0'..=b'9' => true,
-        _ => false,
-    }
-}
-
-// Where the blanks end that begin at a place.
-fn past_blanks(text: &[u8], from: usize) -> usize {
+// Where the digits end that begin at a place, or else the blanks.
+fn past(digit: bool, text: &[u8], from: usize) -> usize {
     let mut at = from;
     while at < text.len() {
-        if !is_blank(text[at]) {
-            return at;
-        }
-        at = at + 1;
-    }
-    at
-}
-
-fn past_digits(text: &[u8], from: usize) -> usize {
-    let mut at = from;
-    while at < text.len() {
-        if !is_digit(text[at]) {
+        if !is_either(digit, text[at]) {
             return at;
         }
         at = at + 1;
@@ -134,8 +118,8 @@ fn number_behind(text: &[u8], name: &[u8]) -> Parsed {
     let Found::Behind(end) = find(text, name) else {
         return Parsed::Wrong;
     };
-    let first = past_blanks(text, end);
-    let last = past_digits(text, first);
+    let first = past(false, text, end);
+    let last = past(true, text, first);
     if last < first {
         return Parsed::Wrong;
     }
