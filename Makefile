@@ -1,16 +1,26 @@
 # The commands of the repository; `make` alone lists them.
-.PHONY: help run test program lib install uninstall clean pc soak bench cases reader fmt
+.PHONY: help run test test-aarch64 program lib install uninstall clean pc soak bench cases reader fmt
 
 PREFIX = /usr/local
 DESTDIR =
+# What the archive is for: nothing, for x86-64, or one of the others.
+TARGET =
+TARGETS = aarch64-linux-gnu aarch64-linux-android
+ifneq ($(filter-out $(TARGETS),$(TARGET)),)
+$(error TARGET is one of $(TARGETS), or left out for x86-64, and not '$(TARGET)')
+endif
+archive = $(if $(TARGET),target/$(TARGET),target/staticlib)/libsuntimpani.a
+# Where an archive is installed below PREFIX: each target has a folder of its own, and they share the header.
+libdir = lib$(TARGET:%=/%)
 # The one place of the version is the Rust package, since cargo takes it from there.
 VERSION = $(shell sed -n 's/^version = "\(.*\)"/\1/p' bindings/rust/Cargo.toml)
 # Prints the pkg-config file.
-PC = sed -e 's|@PREFIX@|$(PREFIX)|' -e 's|@VERSION@|$(VERSION)|' include/suntimpani.pc.in
+PC = sed -e 's|@PREFIX@|$(PREFIX)|' -e 's|@LIBDIR@|$(libdir)|' -e 's|@VERSION@|$(VERSION)|' include/suntimpani.pc.in
 
-# The toolchain compiles for x86-64. On an AArch64 machine the tests link an archive of their own, of the same module.
+# On an AArch64 machine the tests link the archive for that, of the same module.
 ifeq ($(shell uname -m),aarch64)
-for_tests = tests/aarch64/archive $(1)
+for_tests = targets/aarch64/archive $(1) aarch64-linux-gnu
+tested = target/aarch64-linux-gnu/libsuntimpani.a
 else
 for_tests = :
 endif
@@ -30,14 +40,18 @@ parts_of = crates.txt $(shell find $(crates_of) -name '*.rt' -o -name '*.antt') 
 help:
 	@echo "make run        prove and build the program sframe, and ask it about a recorded crash"
 	@echo "make test       the gate: proofs, must-fail edits, programs, and the library against the reader (bash .ci/run)"
-	@echo "make lib        prove the library and build target/staticlib/libsuntimpani.a"
+	@echo "make test-aarch64  the archive for AArch64 under an emulator, which the gate tries only where it finds one"
+	@echo "make lib        prove the library and build target/staticlib/libsuntimpani.a; with TARGET=aarch64-linux-gnu or"
+	@echo "                TARGET=aarch64-linux-android the same module for AArch64, target/TARGET/libsuntimpani.a"
 	@echo "make program    prove and build target/bin/sframe, which bin/sframe starts"
-	@echo "make install    put both, the header and a pkg-config file below PREFIX ($(PREFIX))"
-	@echo "make uninstall  take them away again"
+	@echo "make install    put both, the header and a pkg-config file below PREFIX ($(PREFIX)); with TARGET=.. that archive,"
+	@echo "                below PREFIX/lib/TARGET, and no program"
+	@echo "make uninstall  take them away again, with TARGET=.. that archive"
 	@echo "make clean      remove target/ and what cargo built"
 	@echo "make pc         print the pkg-config file"
 	@echo "make soak       compare the library with the reader for longer: N=$(N) sections, SEED=.. to repeat a run"
 	@echo "make bench      the library's time against the reader's, and its use of the stack; TABLE=rows, TABLE=frames, TABLE=ask or TABLE=why for a part"
+	@echo "                with TARGET=.. the size of that archive and its use of the stack, under an emulator"
 	@echo "make cases      make the stored cases and their expected output anew, by the independent reader"
 	@echo "make reader     the independent reader by itself: its own tests, and the public dumps"
 	@echo "make fmt        lay every source and proof file out"
@@ -48,31 +62,44 @@ run: program
 test:
 	bash .ci/run
 
+test-aarch64: target/staticlib/libsuntimpani.a
+	@tests/aarch64/run
+
 program: target/bin/sframe
 
 target/bin/sframe: $(call parts_of,sframe)
 	@tools/prove check sframe
 	@touch $@
 
-lib: target/staticlib/libsuntimpani.a
-	@$(call for_tests,suntimpani)
+lib: $(archive) $(tested)
 
 target/staticlib/libsuntimpani.a: $(call parts_of,suntimpani)
 	@tools/prove staticlib suntimpani
 	@touch $@
 
-install: target/staticlib/libsuntimpani.a target/bin/sframe
-	install -d "$(DESTDIR)$(PREFIX)/lib/pkgconfig" "$(DESTDIR)$(PREFIX)/include" "$(DESTDIR)$(PREFIX)/bin"
-	install -m 644 target/staticlib/libsuntimpani.a "$(DESTDIR)$(PREFIX)/lib"
+$(TARGETS:%=target/%/libsuntimpani.a): target/staticlib/libsuntimpani.a $(wildcard targets/aarch64/*) include/suntimpani.h
+	@targets/aarch64/archive suntimpani $(@:target/%/libsuntimpani.a=%)
+
+install: $(archive) $(if $(TARGET),,target/bin/sframe)
+	install -d "$(DESTDIR)$(PREFIX)/$(libdir)/pkgconfig" "$(DESTDIR)$(PREFIX)/include"
+	install -m 644 $(archive) "$(DESTDIR)$(PREFIX)/$(libdir)"
 	install -m 644 include/suntimpani.h "$(DESTDIR)$(PREFIX)/include"
-	$(PC) >"$(DESTDIR)$(PREFIX)/lib/pkgconfig/suntimpani.pc"
+	$(PC) >"$(DESTDIR)$(PREFIX)/$(libdir)/pkgconfig/suntimpani.pc"
+ifeq ($(TARGET),)
+	install -d "$(DESTDIR)$(PREFIX)/bin"
 	install -m 755 bin/sframe "$(DESTDIR)$(PREFIX)/bin"
 	install -m 755 target/bin/sframe "$(DESTDIR)$(PREFIX)/bin/sframe-proved"
+endif
 
+# The header goes with the last archive below PREFIX.
 uninstall:
-	rm -f "$(DESTDIR)$(PREFIX)/lib/libsuntimpani.a" "$(DESTDIR)$(PREFIX)/include/suntimpani.h"
-	rm -f "$(DESTDIR)$(PREFIX)/lib/pkgconfig/suntimpani.pc"
+	rm -f "$(DESTDIR)$(PREFIX)/$(libdir)/libsuntimpani.a" "$(DESTDIR)$(PREFIX)/$(libdir)/pkgconfig/suntimpani.pc"
+ifeq ($(TARGET),)
 	rm -f "$(DESTDIR)$(PREFIX)/bin/sframe" "$(DESTDIR)$(PREFIX)/bin/sframe-proved"
+endif
+	@for folder in lib $(TARGETS:%=lib/%); do \
+	    if [ -f "$(DESTDIR)$(PREFIX)/$$folder/libsuntimpani.a" ]; then exit; fi; \
+	done; rm -f "$(DESTDIR)$(PREFIX)/include/suntimpani.h"
 
 clean:
 	rm -rf target tests/target bindings/rust/target
@@ -83,12 +110,19 @@ pc:
 soak: lib
 	cd tests && cargo run --quiet --release --offline --locked --features library --bin soak -- $(N) $(SEED) $(FROM)
 
+# Under an emulator there are no times.
+ifneq ($(TARGET),)
+bench: $(archive)
+	@size $(archive)
+	@tests/aarch64/compare $(archive) stack
+else
 bench: lib program
 	@tools/prove staticlib measure
 	@$(call for_tests,measure)
 	@tools/prove staticlib measure_lines
 	@$(call for_tests,measure_lines)
 	cd tests && cargo run --quiet --release --offline --locked --features library,measure --bin bench -- $(TABLE)
+endif
 
 cases:
 	cd tests && cargo run --quiet --release --offline --locked --bin cases -- write

@@ -10,6 +10,9 @@
  *
  *     cc program.c -lsuntimpani
  *
+ * The archive is there for x86-64 Linux and, of the same proved module, for AArch64: Linux and Android. Which machine it
+ * runs on and which machine's sections it reads have nothing to do with each other.
+ *
  * SPDX-License-Identifier: MIT
  *
  *
@@ -166,7 +169,7 @@
 #include <stdint.h>
 
 /* The version of this header and of the archive beside it. */
-#define SUNTIMPANI_VERSION "0.6.0"
+#define SUNTIMPANI_VERSION "0.6.1"
 
 /* How many frames a trace may have whose limit is 0. Who passes this name in place of 0, and has the size of the buffer
  * from it, lends enough whatever 0 means in the archive. */

@@ -64,6 +64,19 @@ extern crash seen;
 /* Noted by a function that was called. */
 #define NOTE_RETURN(self) (seen.expected[self].ra = (uint64_t)(uintptr_t)__builtin_return_address(0))
 
+/* Noted by a function that calls nothing. A compiler for AArch64 that is asked for the return address clears LR of a
+ * signature, and so saves LR before. Here LR is given back as it was: nothing is saved, and the function's rows have RA
+ * in LR. */
+#if defined(__aarch64__)
+#define NOTE_RETURN_IN_LEAF(self)                                                                                      \
+    __asm__ volatile("mov x16, x30\n\thint #7 /* xpaclri */\n\tstr x30, %0\n\tmov x30, x16"                            \
+                     : "=m"(seen.expected[self].ra)                                                                    \
+                     :                                                                                                 \
+                     : "x16")
+#else
+#define NOTE_RETURN_IN_LEAF(self) NOTE_RETURN(self)
+#endif
+
 /* Noted by a function that the C library called. It counts from a frame pointer, since it asks for it: its caller's FP
  * is the word there. */
 #define NOTE_OUTERMOST(self)                                                                                           \
@@ -78,7 +91,7 @@ extern crash seen;
  * `third`, or `brink`, or a null pointer. The first of those that end in the deep one, with the number of calls that
  * are to come. What the module calls. Calls without a fault, with a number below 10. */
 int first(int value);
-NEVER_RETURNS void third(int value);
+void third(int value);
 NEVER_RETURNS void brink(int value);
 void let_last_call(void (*called)(int));
 NEVER_RETURNS int deep(int left);

@@ -143,6 +143,7 @@ pub fn all() -> Vec<Case> {
         signed::all(),
         corpus_walks::signed(),
         recorded::signed(),
+        recorded::on_aarch64(),
     ];
     let mut cases: Vec<Case> = groups.into_iter().flatten().collect();
     ask_of_refused(&mut cases);

@@ -9,19 +9,18 @@ mod counts;
 pub use counts::{Call, Counts, NONE};
 
 use crate::cases::Case;
-use crate::guarded::{Guarded, Side};
-use crate::library::{self, LIBRARY};
+use crate::guarded::Side;
+use crate::library::far::{self, FAR};
+use crate::library::rooms::Rooms;
+use crate::library::{self, Calls, LIBRARY};
 use crate::reader::{self, Answer, Asked, FunctionAt, Header, NextRow, RowsAt, Verdict};
 use crate::stream::{indexes, places, to_ask, turn, Random, ToAsk, Turn};
 use crate::walk::{lent, Walk, Walked};
-use std::cell::Cell;
+use std::cell::{Cell, RefCell};
 use std::fmt::Debug;
 use std::ops::Range;
 use std::sync::atomic::{AtomicBool, AtomicU64, Ordering::Relaxed};
 use std::thread;
-
-/// The longest section that is lent: above 2^32, so that a length of which only 32 bits are looked at shows.
-const MOST_BYTES: usize = (1 << 32) + (1 << 20);
 
 /// The seed of the indexes and places that a case is asked.
 const SEED_OF_CASES: u64 = 20_260_104;
@@ -29,11 +28,10 @@ const SEED_OF_CASES: u64 = 20_260_104;
 /// The most rows of a function that are read.
 const MOST_ROWS: usize = 50;
 
-/// Memory for all that a call is lent, each part between forbidden pages of its own, and the counts.
+/// The calls that are compared, memory for all that they are lent, and the counts.
 pub struct Comparison {
-    section: Guarded,
-    stack: Guarded,
-    words: Guarded,
+    calls: Calls,
+    rooms: Rooms,
     counts: Counts,
 }
 
@@ -53,12 +51,16 @@ struct Expected {
 
 impl Default for Comparison {
     fn default() -> Comparison {
-        let room = Guarded::with_room;
-        Comparison { section: room(MOST_BYTES), stack: room(1 << 20), words: room(8_192), counts: Counts::default() }
+        Comparison { calls: LIBRARY, rooms: Rooms::default(), counts: Counts::default() }
     }
 }
 
 impl Comparison {
+    /// Of the archive that a program of another machine calls, which is started for this thread.
+    pub fn far() -> Comparison {
+        Comparison { calls: FAR, rooms: far::start(), counts: Counts::default() }
+    }
+
     /// Makes every call of a turn, on both sides of the memory; the first difference is said.
     pub fn compare(&mut self, turn: &Turn) -> Result<(), String> {
         let expected = self.by_reader(turn);
@@ -67,6 +69,7 @@ impl Comparison {
 
     /// The same of a case, where first the reader must answer as the case's author states.
     pub fn compare_case(&mut self, case: &Case) -> Result<(), String> {
+        COMPARED.set(case.name.clone());
         let random = &mut Random::new(SEED_OF_CASES);
         let turn = Turn {
             section: case.section.clone(),
@@ -101,7 +104,7 @@ impl Comparison {
 
     // The reader reads the memory that the library is lent.
     fn by_reader(&mut self, turn: &Turn) -> Expected {
-        let section = self.section.longer_at(Side::Front, &turn.section, turn.length);
+        let section = self.rooms.section.longer_at(Side::Front, &turn.section, turn.length);
         let checked = reader::Checked::open(section).ok();
         Expected {
             verdict: reader::check(section),
@@ -115,9 +118,9 @@ impl Comparison {
     }
 
     fn functions_at(&mut self, side: Side, turn: &Turn, expected: &Expected) -> Result<(), String> {
-        let section = self.section.longer_at(side, &turn.section, turn.length);
+        let section = self.rooms.section.longer_at(side, &turn.section, turn.length);
         for (&index, told) in turn.indexes.iter().zip(&expected.functions) {
-            let by_library = LIBRARY.function_at(section, index);
+            let by_library = self.calls.function_at(section, index);
             same(by_library, library::Function::of(told), || format!("function {index:x}, {side:?}"))?;
             let number = if told.number == 0 && !told.known { NONE } else { told.number };
             self.counts.count(Call::FunctionAt, number);
@@ -126,20 +129,20 @@ impl Comparison {
     }
 
     fn rows_at(&mut self, side: Side, turn: &Turn, expected: &Expected) -> Result<(), String> {
-        let section = self.section.longer_at(side, &turn.section, turn.length);
+        let section = self.rooms.section.longer_at(side, &turn.section, turn.length);
         for (index, (begin, turns)) in turn.indexes.iter().zip(&expected.rows) {
-            let mut rest = LIBRARY.rows_of(section, *index);
+            let mut rest = self.calls.rows_of(section, *index);
             same(rest, library::Rows::of(begin), || format!("the rows of {index:x}, {side:?}"))?;
             self.counts.count(Call::RowsOf, if begin.left == 0 { NONE } else { 0 });
             for (number, next) in turns.iter().enumerate() {
-                let by_library = LIBRARY.next_row(section, rest);
+                let by_library = self.calls.next_row(section, rest);
                 same(by_library, library::Row::of(next), || format!("row {number} of {index:x}, {side:?}"))?;
                 self.counts.count(Call::NextRow, if next.row.is_none() { NONE } else { 0 });
                 rest = by_library.rest;
             }
         }
         for (place, next) in turn.places.iter().zip(&expected.at_places) {
-            let by_library = LIBRARY.next_row(section, library::Rows::of(place));
+            let by_library = self.calls.next_row(section, library::Rows::of(place));
             same(by_library, library::Row::of(next), || format!("the row at {place:x?}, {side:?}"))?;
             self.counts.count(Call::NextRow, if next.row.is_none() { NONE } else { 0 });
         }
@@ -147,11 +150,11 @@ impl Comparison {
     }
 
     fn lookups_at(&mut self, side: Side, turn: &Turn, expected: &Expected) -> Result<(), String> {
-        let section = self.section.longer_at(side, &turn.section, turn.length);
-        same(LIBRARY.check(section), expected.verdict, || format!("the verdict, {side:?}"))?;
+        let section = self.rooms.section.longer_at(side, &turn.section, turn.length);
+        same(self.calls.check(section), expected.verdict, || format!("the verdict, {side:?}"))?;
         self.counts.count(Call::Check, expected.verdict.number());
         for (&(address, pc), answer) in turn.questions.iter().zip(&expected.answers) {
-            let by_library = LIBRARY.lookup(section, address, pc);
+            let by_library = self.calls.lookup(section, address, pc);
             same(by_library, library::Answer::of(answer), || format!("{address:x}, PC {pc:x}, {side:?}"))?;
             self.counts.count(Call::Lookup, answer.refusal());
         }
@@ -159,10 +162,10 @@ impl Comparison {
     }
 
     fn asks_at(&mut self, side: Side, turn: &Turn, expected: &Expected) -> Result<(), String> {
-        let section = self.section.longer_at(side, &turn.section, turn.length);
+        let section = self.rooms.section.longer_at(side, &turn.section, turn.length);
         let full = expected.verdict == Verdict::Accepted && is_sorted(section);
         for (&question, asked) in turn.questions.iter().zip(&expected.asked) {
-            compare_asked(section, question, asked, full).map_err(|said| format!("{said}, {side:?}"))?;
+            compare_asked(&self.calls, section, question, asked, full).map_err(|said| format!("{said}, {side:?}"))?;
             self.counts.count(Call::Ask, asked.refusal());
         }
         Ok(())
@@ -192,8 +195,8 @@ impl Comparison {
         full: bool,
     ) -> Result<(), String> {
         for side in Side::BOTH {
-            let lent = self.section.bytes_at(side, section);
-            let compared = compare_asked(lent, question, asked, full);
+            let lent = self.rooms.section.bytes_at(side, section);
+            let compared = compare_asked(&self.calls, lent, question, asked, full);
             compared.map_err(|said| format!("{said}, {side:?}, section {section:x?}"))?;
             self.counts.count(Call::Ask, asked.refusal());
         }
@@ -201,11 +204,12 @@ impl Comparison {
     }
 
     fn walks_at(&mut self, side: Side, turn: &Turn, expected: &Expected) -> Result<(), String> {
-        let section = self.section.longer_at(side, &turn.section, turn.length);
+        let section = self.rooms.section.longer_at(side, &turn.section, turn.length);
         for (walk, walked) in turn.walks.iter().zip(&expected.walked) {
-            let stack = self.stack.bytes_at(side, &walk.stack);
-            let words = self.words.words_at(side, &lent(walk.words));
-            compare_walk(section, stack, words, walk, walked).map_err(|said| format!("{said}, {side:?}"))?;
+            let stack = self.rooms.stack.bytes_at(side, &walk.stack);
+            let words = self.rooms.words.words_at(side, &lent(walk.words));
+            compare_walk(&self.calls, section, stack, words, walk, walked)
+                .map_err(|said| format!("{said}, {side:?}"))?;
             self.counts.count(Call::Caller, walked.step.number());
             self.counts.count(Call::Trace, walked.traced.ending.number());
         }
@@ -241,21 +245,34 @@ fn is_sorted(section: &[u8]) -> bool {
 }
 
 // Every field; and where the section is accepted and sorted, every field of the full answer too.
-fn compare_asked(section: &[u8], (address, pc): (u64, u64), asked: &Asked, full: bool) -> Result<(), String> {
-    let by_library = LIBRARY.ask(section, address, pc);
+fn compare_asked(
+    calls: &Calls,
+    section: &[u8],
+    (address, pc): (u64, u64),
+    asked: &Asked,
+    full: bool,
+) -> Result<(), String> {
+    let by_library = calls.ask(section, address, pc);
     same(by_library, library::Answer::of_asked(asked), || format!("asked at {address:x}, PC {pc:x}"))?;
     if full {
-        let lookup = LIBRARY.lookup(section, address, pc);
+        let lookup = calls.lookup(section, address, pc);
         same(by_library, lookup, || format!("asked at {address:x}, PC {pc:x}, and the full answer"))?;
     }
     Ok(())
 }
 
 // Every field of both answers, and every word of the buffer.
-fn compare_walk(section: &[u8], stack: &[u8], words: &mut [u64], walk: &Walk, expected: &Walked) -> Result<(), String> {
-    let step = LIBRARY.step(section, stack, walk.process, walk.registers);
+fn compare_walk(
+    calls: &Calls,
+    section: &[u8],
+    stack: &[u8],
+    words: &mut [u64],
+    walk: &Walk,
+    expected: &Walked,
+) -> Result<(), String> {
+    let step = calls.step(section, stack, walk.process, walk.registers);
     same(step, library::Step::of(&expected.step), || format!("the step, {walk:x?}"))?;
-    let traced = LIBRARY.trace(section, stack, walk.process, walk.registers, walk.limit, words);
+    let traced = calls.trace(section, stack, walk.process, walk.registers, walk.limit, words);
     same(traced, library::Traced::of(&expected.traced), || format!("the trace, {walk:x?}"))?;
     same(&words[..], &expected.words[..], || format!("the words, {walk:x?}"))
 }
@@ -269,6 +286,7 @@ fn same<T: Debug + PartialEq>(library: T, reader: T, what: impl FnOnce() -> Stri
 
 thread_local! {
     static TURN: Cell<u64> = const { Cell::new(0) };
+    static COMPARED: RefCell<String> = RefCell::new("no case".to_string());
 }
 
 /// The turn that this thread is at.
@@ -276,13 +294,19 @@ pub fn turn_of_this_thread() -> u64 {
     TURN.get()
 }
 
+/// The name of the case that this thread is at, or the seed and the turn.
+pub fn compared_by_this_thread() -> String {
+    COMPARED.with_borrow(String::clone)
+}
+
 /// Makes these turns of a seed.
 pub fn compare_turns(comparison: &mut Comparison, seed: u64, turns: Range<u64>) -> Result<(), String> {
     for number in turns {
         TURN.set(number);
+        COMPARED.set(format!("seed {seed}, turn {number}"));
         let compared = comparison.compare(&turn(seed, number));
         let asked = |()| to_ask(seed, number).iter().try_for_each(|one| comparison.compare_to_ask(one));
-        compared.and_then(asked).map_err(|difference| format!("seed {seed}, turn {number}: {difference}"))?;
+        compared.and_then(asked).map_err(|difference| format!("{}: {difference}", compared_by_this_thread()))?;
     }
     Ok(())
 }
@@ -295,19 +319,20 @@ pub struct Progress {
     stopped: AtomicBool,
 }
 
-/// Does every part of a comparison, on as many threads as the machine has cores, until one of them finds a difference.
-/// What is counted is the same whichever thread does a part.
+/// Does every part of a comparison, on as many threads as the machine has cores, each with one that it makes, until one
+/// of them finds a difference. What is counted is the same whichever thread does a part.
 ///
 /// # Panics
 /// Where a part does.
 pub fn in_parts(
     parts: u64,
     progress: &Progress,
+    make: fn() -> Comparison,
     compare: impl Fn(&mut Comparison, u64) -> Result<(), String> + Sync,
 ) -> Result<Counts, String> {
     let next = AtomicU64::new(0);
     let work = || {
-        let mut comparison = Comparison::default();
+        let mut comparison = make();
         while let Some(part) = next_part(&next, parts, progress) {
             let before = comparison.counts.calls();
             compare(&mut comparison, part).inspect_err(|_| progress.stopped.store(true, Relaxed))?;
@@ -330,9 +355,10 @@ fn next_part(next: &AtomicU64, parts: u64, progress: &Progress) -> Option<u64> {
     (part < parts && !progress.stopped.load(Relaxed)).then_some(part)
 }
 
-/// How many calls were compared without a difference, how many twins were asked, and the table of the calls' numbers.
-pub fn report(counts: &Counts) -> String {
-    let compared = format!("compared: {} calls of the library, 0 differences", counts.calls());
+/// How many calls were compared without a difference, of what, how many twins were asked, and the table of the calls'
+/// numbers.
+pub fn report(counts: &Counts, of_what: &str) -> String {
+    let compared = format!("compared: {} calls of {of_what}, 0 differences", counts.calls());
     let twins = format!("{} sections with other bytes where none is named", counts.twins);
     format!("{compared}\nasked alike: {twins}, {} of them looked up otherwise\n{counts}", counts.told_apart)
 }

@@ -1,9 +1,11 @@
 //! Memory between two forbidden pages: a read or a write outside what lies flush against one of them ends the program.
-//! Pages between them can be forbidden too, all but those that have certain bytes.
+//! Pages between them can be forbidden too, all but those that have certain bytes. Memory can be shared with a program
+//! that is started, which has forbidden pages of its own.
 #![allow(unsafe_code)]
 
-use std::ffi::{c_int, c_void};
+use std::ffi::{c_char, c_int, c_uint, c_void};
 use std::ops::Range;
+use std::os::fd::{AsRawFd, FromRawFd, OwnedFd, RawFd};
 use std::sync::OnceLock;
 use std::{ptr, slice};
 
@@ -12,6 +14,8 @@ const PROT_READ: c_int = 1;
 const PROT_READ_WRITE: c_int = 3;
 /// Private, of no file, and without memory set aside: a large room costs what is touched of it.
 const MAP_FLAGS: c_int = 0x4022;
+/// Shared, at the place that is named, and without memory set aside.
+const MAP_FLAGS_OF_A_FILE: c_int = 0x4011;
 
 const SIGBUS: c_int = 7;
 const SIGSEGV: c_int = 11;
@@ -23,6 +27,8 @@ extern "C" {
     fn mmap(at: *mut c_void, length: usize, allow: c_int, flags: c_int, file: c_int, offset: i64) -> *mut c_void;
     fn mprotect(at: *mut c_void, length: usize, allow: c_int) -> c_int;
     fn munmap(at: *mut c_void, length: usize) -> c_int;
+    fn memfd_create(name: *const c_char, flags: c_uint) -> c_int;
+    fn ftruncate(file: c_int, length: i64) -> c_int;
     fn getpagesize() -> c_int;
     fn signal(number: c_int, handler: extern "C" fn(c_int)) -> *mut c_void;
     fn _exit(status: c_int) -> !;
@@ -71,6 +77,8 @@ pub struct Guarded {
     base: *mut u8,
     /// The bytes between the two forbidden pages.
     room: usize,
+    /// The file that a shared room is the memory of.
+    file: Option<OwnedFd>,
 }
 
 impl Guarded {
@@ -79,14 +87,48 @@ impl Guarded {
     /// # Panics
     /// Where the system does not give it.
     pub fn with_room(bytes: usize) -> Guarded {
+        let room = Guarded::forbidden(bytes);
+        // SAFETY: the middle of a new mapping, which nothing is lent of yet.
+        let opened = unsafe { mprotect(room.base.add(PAGE).cast(), room.room, PROT_READ_WRITE) };
+        assert_eq!(opened, 0, "the room cannot be opened");
+        room
+    }
+
+    /// The same, of memory that every program has which is started from then on, by the number of its file.
+    ///
+    /// # Panics
+    /// Where the system does not give it.
+    pub fn shared(bytes: usize) -> Guarded {
+        let mut room = Guarded::forbidden(bytes);
+        let file = memory_file(room.room);
+        // SAFETY: the middle of a new mapping, which nothing is lent of yet, is mapped once more.
+        let opened = unsafe {
+            let (at, flags) = (room.base.add(PAGE).cast(), MAP_FLAGS_OF_A_FILE);
+            mmap(at, room.room, PROT_READ_WRITE, flags, file.as_raw_fd(), 0)
+        };
+        assert_ne!(opened as isize, -1, "the shared room cannot be opened");
+        room.file = Some(file);
+        room
+    }
+
+    // A room for at least so many bytes that is not opened yet.
+    fn forbidden(bytes: usize) -> Guarded {
         let room = bytes.max(1).next_multiple_of(PAGE);
-        // SAFETY: a new mapping of its own, whose middle is then opened; nothing else knows its address.
-        unsafe {
-            let base = mmap(ptr::null_mut(), room + 2 * PAGE, PROT_NONE, MAP_FLAGS, -1, 0);
-            assert!(!base.is_null() && base as isize != -1, "no memory for {bytes} bytes");
-            assert_eq!(mprotect(base.byte_add(PAGE), room, PROT_READ_WRITE), 0, "the room cannot be opened");
-            Guarded { base: base.cast(), room }
-        }
+        // SAFETY: a new mapping of its own; nothing else knows its address.
+        let base = unsafe { mmap(ptr::null_mut(), room + 2 * PAGE, PROT_NONE, MAP_FLAGS, -1, 0) };
+        assert!(!base.is_null() && base as isize != -1, "no memory for {bytes} bytes");
+        Guarded { base: base.cast(), room, file: None }
+    }
+
+    /// The addresses between the two forbidden pages.
+    pub fn addresses(&self) -> Range<usize> {
+        let begin = self.base as usize + PAGE;
+        begin..begin + self.room
+    }
+
+    /// The number of a shared room's file.
+    pub fn file(&self) -> Option<RawFd> {
+        self.file.as_ref().map(AsRawFd::as_raw_fd)
     }
 
     /// A copy that lies flush against the forbidden page of a side.
@@ -180,6 +222,18 @@ impl Sparse<'_> {
 impl Drop for Sparse<'_> {
     fn drop(&mut self) {
         self.room.allow(0, self.room.room, PROT_READ_WRITE);
+    }
+}
+
+// A file in memory alone, of so many bytes; without flags it stays open in a program that is started.
+fn memory_file(bytes: usize) -> OwnedFd {
+    // SAFETY: the name ends with 0, and the file is this function's own before anyone else has it.
+    unsafe {
+        let file = memfd_create(c"room".as_ptr(), 0);
+        assert!(file >= 0, "no file in memory");
+        let file = OwnedFd::from_raw_fd(file);
+        assert_eq!(ftruncate(file.as_raw_fd(), bytes as i64), 0, "no file of {bytes} bytes in memory");
+        file
     }
 }
 

@@ -5,9 +5,10 @@
 //! shares nothing with it. `walk` is what is lent to a step and a trace, and `laid` lays long stacks for them. `cases`
 //! is the fixed list of named sections, questions and walks, `pack` the form in which they are stored, `large` the
 //! sections too big to store, `stream` an endless seeded source of more. `comparison` holds the proved library, called
-//! by `library`, against the reader, all memory being `guarded`. `measured`, `timing`, `painted` and `libsframe` measure
-//! both. `words` is what the program `sframe` prints and `reasons` what the program of that name does, and `program`
-//! runs them; `shown` is what is stored of the first. `dump` is what other tools printed of a section.
+//! by `library`, against the reader, all memory being `guarded`; by `library::far` a program of another machine calls
+//! the archive of that machine. `measured`, `timing`, `painted` and `libsframe` measure both. `words` is what the
+//! program `sframe` prints and `reasons` what the program of that name does, and `program` runs them; `shown` is what is
+//! stored of the first. `dump` is what other tools printed of a section.
 #![deny(unsafe_code)]
 
 pub mod cases;

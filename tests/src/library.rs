@@ -1,7 +1,10 @@
 //! The proved library, called as a program in C would call it.
 #![allow(unsafe_code)]
 
+pub mod depths;
 pub mod empty;
+pub mod far;
+pub mod rooms;
 
 use crate::reader::{self, AskedOutcome, Base, Ending, Outcome, Place};
 

@@ -34,8 +34,9 @@ fn every_call_is_compared() {
             compare_turns(comparison, SEED, begin..TURNS.min(begin + TURNS_OF_A_PART))
         }
     };
-    let counts = in_parts(parts, &Progress::default(), compare).unwrap_or_else(|difference| panic!("{difference}"));
-    println!("{}", report(&counts));
+    let counts = in_parts(parts, &Progress::default(), Comparison::default, compare)
+        .unwrap_or_else(|difference| panic!("{difference}"));
+    println!("{}", report(&counts, "the library"));
     assert!(counts.calls() >= 200_000);
     assert!(TURNS * ASKED_OF_A_TURN >= ASKED && counts.told_apart >= TOLD_APART, "{} told apart", counts.told_apart);
     assert_eq!(counts.lacking(ENOUGH), Vec::<String>::new(), "come less than {ENOUGH} times, or never may");

@@ -9,14 +9,15 @@ use std::process::Command;
 use suntimpani_tests::in_repository;
 
 /// The folder of the archive that is linked, as build.rs has it.
-const USUAL_FOLDER: &str = if cfg!(target_arch = "aarch64") { "target/aarch64" } else { "target/staticlib" };
+const USUAL_FOLDER: &str = if cfg!(target_arch = "aarch64") { "target/aarch64-linux-gnu" } else { "target/staticlib" };
 
+/// The archive that is linked; or another one, for a machine that this test need not run on.
 fn archive() -> PathBuf {
-    let folder = env::var_os("SUNTIMPANI_LIB_DIR").map_or_else(|| in_repository(USUAL_FOLDER), PathBuf::from);
-    folder.join("libsuntimpani.a")
+    let linked = || env::var_os("SUNTIMPANI_LIB_DIR").map_or_else(|| in_repository(USUAL_FOLDER), PathBuf::from);
+    env::var_os("SUNTIMPANI_ARCHIVE").map_or_else(|| linked().join("libsuntimpani.a"), PathBuf::from)
 }
 
-/// What a tool prints of the archive.
+/// What a tool prints of the archive. GNU's read objects of other machines too.
 fn said(tool: &str, words: &[&str]) -> String {
     let output = Command::new(tool).args(words).arg(archive()).output();
     let output = output.unwrap_or_else(|error| panic!("{tool}, of binutils, cannot be run: {error}"));

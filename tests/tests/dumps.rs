@@ -134,14 +134,17 @@ fn verdicts_are_those_of_the_readme() {
     assert_eq!(names, CORPUS_VERDICTS.len());
 }
 
-// The section that the crash recorder wrote of itself: vectors/recorder, beside the corpus.
+// The sections that the crash recorder wrote of itself: vectors/recorder and vectors/recorder_aarch64, beside the
+// corpus.
 #[test]
-fn the_recorded_section_is_as_shown() {
-    let recorded = "../../recorder/section";
-    let dump = Dump::of(recorded).expect("a dump");
-    let found = functions(&corpus_section(recorded));
-    assert_eq!(found.len(), 17);
-    dump.compare(recorded, &found);
+fn the_recorded_sections_are_as_shown() {
+    for (folder, count) in [("recorder", 17), ("recorder_aarch64/plain", 42), ("recorder_aarch64/signed", 42)] {
+        let recorded = format!("../../{folder}/section");
+        let dump = Dump::of(&recorded).expect("a dump");
+        let found = functions(&corpus_section(&recorded));
+        assert_eq!(found.len(), count, "{folder}");
+        dump.compare(&recorded, &found);
+    }
 }
 
 // The sections of the programs whose functions end in calls: vectors/last_calls.

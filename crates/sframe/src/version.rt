@@ -2,5 +2,5 @@
 use crate::say::say;
 
 pub fn show_version() {
-    say(b"sframe 0.6.0\n");
+    say(b"sframe 0.6.1\n");
 }

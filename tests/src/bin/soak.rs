@@ -12,7 +12,9 @@ use std::sync::atomic::{AtomicU64, Ordering::Relaxed};
 use std::sync::mpsc::{self, RecvTimeoutError};
 use std::thread;
 use std::time::{Duration, Instant, SystemTime, UNIX_EPOCH};
-use suntimpani_tests::comparison::{compare_turns, in_parts, report, turn_of_this_thread, Counts, Progress};
+use suntimpani_tests::comparison::{
+    compare_turns, in_parts, report, turn_of_this_thread, Comparison, Counts, Progress,
+};
 use suntimpani_tests::guarded;
 
 const USAGE: &str = "usage: soak COUNT [SEED [FROM]], decimal numbers, COUNT above 0";
@@ -39,7 +41,7 @@ fn main() -> ExitCode {
     guarded::tell_faults_by(tell_fault);
     match soak(&asked) {
         Ok(counts) => {
-            println!("{}", report(&counts));
+            println!("{}", report(&counts, "the library"));
             ExitCode::SUCCESS
         }
         Err(difference) => {
@@ -77,7 +79,8 @@ fn soak(asked: &Asked) -> Result<Counts, String> {
     thread::scope(|scope| {
         scope.spawn(|| {
             let sender = sender;
-            let done = in_parts(asked.count.div_ceil(TURNS_OF_A_PART), &progress, |comparison, part| {
+            let parts = asked.count.div_ceil(TURNS_OF_A_PART);
+            let done = in_parts(parts, &progress, Comparison::default, |comparison, part| {
                 let first = asked.from + part * TURNS_OF_A_PART;
                 compare_turns(comparison, asked.seed, first..end.min(first.saturating_add(TURNS_OF_A_PART)))
             });

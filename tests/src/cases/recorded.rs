@@ -1,8 +1,8 @@
 //! Crashes of real programs: the section that each was linked with, the registers of the fault, the live stack, and
-//! the frames as somebody else knows them. One was recorded by the program in its own signal handler
-//! (vectors/recorder), with the frames that it noted on its way down; the others were stopped by a debugger, which told
-//! their frames: some whose functions end in calls that never return (vectors/last_calls), and some whose functions
-//! sign their return addresses (vectors/signed).
+//! the frames as somebody else knows them. Some were recorded by the program in its own signal handler
+//! (vectors/recorder, and vectors/recorder_aarch64), with the frames that it noted on its way down; the others were
+//! stopped by a debugger, which told their frames: some whose functions end in calls that never return
+//! (vectors/last_calls), and some whose functions sign their return addresses (vectors/signed).
 
 use super::questions::{defined, Question};
 use super::walks::Expected;
@@ -15,8 +15,12 @@ use std::collections::BTreeSet;
 use std::fs;
 
 const BY_ITSELF: &str = "vectors/recorder";
+const ON_AARCH64: &str = "vectors/recorder_aarch64";
 const LAST_CALLS: &str = "vectors/last_calls";
 const SIGNED: &str = "vectors/signed";
+
+/// The crashes that the recorder wrote on AArch64: the folder of each, and whether its functions sign.
+const AARCH64_RECORDS: [(&str, bool); 2] = [("plain", false), ("signed", true)];
 
 /// The crashes in functions that end in calls: each section, and the folders of its runs.
 pub const LAST_CALL_RUNS: [(&str, [&str; 2]); 2] =
@@ -37,6 +41,22 @@ pub fn all() -> Vec<Case> {
     let run = Run::read(BY_ITSELF);
     let questions = run.questions(&section, &run.pcs());
     vec![Case::new("ok_recorded_crash", section, ACCEPTED).asked(questions).walked(vec![run.walk()])]
+}
+
+/// A case for each crash that the recorder wrote on AArch64, walked with its mask and without one: that is refused at
+/// the first row where the functions sign, and comes to the same where they do not.
+pub fn on_aarch64() -> Vec<Case> {
+    let of_record = |(name, signed): (&str, bool)| {
+        let section = file(&format!("{ON_AARCH64}/{name}/section.sframe"));
+        let run = Run::read(&format!("{ON_AARCH64}/{name}"));
+        let pcs: BTreeSet<u64> = run.pcs().into_iter().flat_map(|pc| [pc - 1, pc]).collect();
+        let questions = run.questions(&section, &Vec::from_iter(pcs));
+        let without_mask = Process { mask: 0, ..run.process };
+        let unmasked = if signed { run.walk_unmasked(0) } else { run.stated(without_mask, &run.frames, run.ending) };
+        let case_name = if signed { "ok_recorded_aarch64_signed" } else { "ok_recorded_aarch64" };
+        Case::new(case_name, section, ACCEPTED).asked(questions).walked(vec![run.walk(), unmasked])
+    };
+    AARCH64_RECORDS.map(of_record).into()
 }
 
 /// A case for each of the two machines, with two crashes; asked at each return address as it stands, too, where a
@@ -178,6 +198,14 @@ mod tests {
     use super::*;
     use crate::reader::{lookup, Outcome, Place};
 
+    impl Run {
+        // The eight bytes there, of a stack in little endian.
+        fn word_at(&self, address: u64) -> u64 {
+            let at = (address - self.process.stack) as usize;
+            u64::from_le_bytes(self.stack()[at..at + 8].try_into().expect("eight bytes"))
+        }
+    }
+
     // The walk is one through three functions of different frames into main, and out of the section.
     #[test]
     fn the_crash_lies_in_four_functions_and_leaves_the_section() {
@@ -194,11 +222,40 @@ mod tests {
         assert_eq!((run.frames.len(), run.ending), (4, 21));
     }
 
+    // The same walk on AArch64. What is in LR is the return address of the function that faulted, which calls nothing;
+    // the others saved theirs. Where the functions sign, every one of these words has a signature in the mask.
+    #[test]
+    fn the_first_row_on_aarch64_has_ra_in_lr() {
+        for (case, (name, signed)) in on_aarch64().iter().zip(AARCH64_RECORDS) {
+            let run = Run::read(&format!("{ON_AARCH64}/{name}"));
+            assert_eq!((run.frames.len(), run.ending), (5, 21), "{name}");
+            let asked = run.pcs().into_iter().zip([0, 1, 1, 1, 1]).map(|(pc, before)| pc - before);
+            let mut functions = Vec::new();
+            for (number, (pc, [cfa, ra, _])) in asked.zip(&run.frames).enumerate() {
+                let Outcome::Found { function, row, .. } = lookup(&case.section, run.process.section, pc).outcome
+                else {
+                    panic!("{name}: no row at {pc:x}")
+                };
+                functions.push(function);
+                let word = match row.ra {
+                    Place::Register => run.registers.lr,
+                    Place::AtOffset(offset) => run.word_at(cfa.wrapping_add_signed(offset)),
+                };
+                assert_eq!((row.ra == Place::Register, row.signed), (number == 0, signed), "{name}, frame {number}");
+                assert_eq!(word & !run.process.mask, *ra, "{name}, frame {number}");
+                assert_eq!(word & run.process.mask != 0, signed, "{name}, frame {number}");
+            }
+            assert_eq!(functions, [27, 25, 23, 30, 0], "third, last, second, first and main of {name}");
+        }
+    }
+
     // The stack window is what the registers say: from SP to the last frame's CFA.
     #[test]
     fn the_stack_reaches_from_sp_to_the_last_cfa() {
         let last_calls = LAST_CALL_RUNS.iter().flat_map(|(_, folders)| folders);
-        let folders = last_calls.map(|folder| format!("{LAST_CALLS}/{folder}")).chain([BY_ITSELF.to_string()]);
+        let by_itself = AARCH64_RECORDS.map(|(name, _)| format!("{ON_AARCH64}/{name}"));
+        let folders = last_calls.map(|folder| format!("{LAST_CALLS}/{folder}"));
+        let folders = folders.chain([BY_ITSELF.to_string()]).chain(by_itself);
         let signed = SIGNED_SECTIONS.into_iter().flat_map(signed_runs).map(|(run, _)| run);
         for run in folders.map(|folder| Run::read(&folder)).chain(signed) {
             assert_eq!(run.process.stack, run.registers.sp, "{}", run.folder);
