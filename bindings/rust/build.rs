@@ -20,12 +20,13 @@ fn main() {
     println!("cargo:rustc-link-lib=static=suntimpani");
 }
 
-// What `make lib` is told in TARGET for the machine and the system that are compiled for; nothing for x86-64.
+// What `make lib` is told in TARGET for the machine and the system that are compiled for; nothing for x86-64, and for
+// any other, of which there is no archive.
 fn target() -> Option<&'static str> {
     let of_cargo = |name| env::var(name).unwrap_or_else(|_| panic!("cargo tells {name}"));
     match (&*of_cargo("CARGO_CFG_TARGET_ARCH"), &*of_cargo("CARGO_CFG_TARGET_OS")) {
         ("aarch64", "android") => Some("aarch64-linux-android"),
-        ("aarch64", _) => Some("aarch64-linux-gnu"),
+        ("aarch64", "linux") => Some("aarch64-linux-gnu"),
         _ => None,
     }
 }
