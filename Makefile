@@ -40,18 +40,19 @@ parts_of = crates.txt $(shell find $(crates_of) -name '*.rt' -o -name '*.antt') 
 help:
 	@echo "make run        prove and build the program sframe, and ask it about a recorded crash"
 	@echo "make test       the gate: proofs, must-fail edits, programs, and the library against the reader (bash .ci/run)"
-	@echo "make test-aarch64  the archive for AArch64 under an emulator, which the gate tries only where it finds one"
-	@echo "make lib        prove the library and build target/staticlib/libsuntimpani.a; with TARGET=aarch64-linux-gnu or"
-	@echo "                TARGET=aarch64-linux-android the same module for AArch64, target/TARGET/libsuntimpani.a"
+	@echo "make test-aarch64"
+	@echo "                the archive for AArch64 under an emulator, which the gate tries only where it finds one"
+	@echo "make lib        prove the library and build target/staticlib/libsuntimpani.a;"
+	@echo "                TARGET=aarch64-linux-gnu or aarch64-linux-android: for AArch64, target/TARGET/libsuntimpani.a"
 	@echo "make program    prove and build target/bin/sframe, which bin/sframe starts"
-	@echo "make install    put both, the header and a pkg-config file below PREFIX ($(PREFIX)); with TARGET=.. that archive,"
-	@echo "                below PREFIX/lib/TARGET, and no program"
-	@echo "make uninstall  take them away again, with TARGET=.. that archive"
+	@echo "make install    put both, the header and a pkg-config file below PREFIX ($(PREFIX));"
+	@echo "                TARGET=..: that archive, below PREFIX/lib/TARGET, and no program"
+	@echo "make uninstall  take them away again; TARGET=..: that archive"
 	@echo "make clean      remove target/ and what cargo built"
 	@echo "make pc         print the pkg-config file"
 	@echo "make soak       compare the library with the reader for longer: N=$(N) sections, SEED=.. to repeat a run"
 	@echo "make bench      the library's time against the reader's, and its use of the stack; TABLE=rows, TABLE=frames, TABLE=ask or TABLE=why for a part"
-	@echo "                with TARGET=.. the size of that archive and its use of the stack, under an emulator"
+	@echo "                TARGET=..: the size of that archive and its use of the stack, under an emulator"
 	@echo "make cases      make the stored cases and their expected output anew, by the independent reader"
 	@echo "make reader     the independent reader by itself: its own tests, and the public dumps"
 	@echo "make fmt        lay every source and proof file out"
@@ -77,7 +78,7 @@ target/staticlib/libsuntimpani.a: $(call parts_of,suntimpani)
 	@tools/prove staticlib suntimpani
 	@touch $@
 
-$(TARGETS:%=target/%/libsuntimpani.a): target/staticlib/libsuntimpani.a $(wildcard targets/aarch64/*) include/suntimpani.h
+$(TARGETS:%=target/%/libsuntimpani.a): target/staticlib/libsuntimpani.a include/suntimpani.h $(wildcard targets/aarch64/*)
 	@targets/aarch64/archive suntimpani $(@:target/%/libsuntimpani.a=%)
 
 install: $(archive) $(if $(TARGET),,target/bin/sframe)

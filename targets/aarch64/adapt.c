@@ -1,11 +1,11 @@
 /* The header's eight functions for AArch64, before those of the proved module, which targets/aarch64/archive compiles
  * with `proved_` before their names. This file is tried, and not proved.
  *
- * The module was made for x86-64: a struct by value is handed to it as a pointer to one, a result of more than two words
- * is written where its first pointer says, and two words come back as a pair. The functions here have the header's forms,
- * which the compiler holds them to, as AArch64 has them. Their struct parameters are their own copies, as by value means,
- * whatever the module does with them. Above each stands the form in the module, which targets/aarch64/translate holds it
- * to. */
+ * The module was made for x86-64: a struct by value is handed to it as a pointer to one, a result of more than two
+ * words is written where its first pointer says, and two words come back as a pair. The functions here have the
+ * header's forms, which the compiler holds them to, as AArch64 has them. Their struct parameters are copies, as by
+ * value means, whatever the module does with them. Above each stands the form in the module, to which
+ * targets/aarch64/translate holds it. */
 #include "suntimpani.h"
 
 _Static_assert(sizeof(suntimpani_process) == 24, "byval 24");

@@ -136,7 +136,6 @@ fn print_resident_cells(cells: [&str; 5], resident: [&str; 5]) {
     println!();
 }
 
-/// A line of a call's stack, in the library's column.
 /// What a run of `sframe why` takes beside one of `sframe lookup`.
 pub struct WhyLine {
     pub section: String,
@@ -164,6 +163,7 @@ fn print_why(cells: [&str; 7]) {
     println!("{run:<6}  {section:<55}  {answer:<6}  {why:>8}  {lookup:>8}  {by_why:>10}  {by_lookup:>13}");
 }
 
+/// A line of a call's stack, in the library's column.
 pub fn print_stack(call: &str, calls: usize, bytes: usize) {
     let (measured, bytes) = (format!("{call}, the most of {calls} calls"), format!("{bytes} B"));
     print_cells(["stack", &measured, &bytes, DASH, DASH, DASH, DASH]);
