@@ -29,13 +29,13 @@ fails {test = true} d bad = refl
 fails {test = false} d bad = absurd (bad (d.holds refl))
 
 -- go on by whether the rule is broken
-pub by-test : {test : Bool} {P X : Type 0} → Decides test P → (¬ P → X) → (P → X) → X
-by-test {test = true} d bad good = bad (d.broken refl)
-by-test {test = false} d bad good = good (d.holds refl)
+pub by_test_lem : {test : Bool} {P X : Type 0} → Decides test P → (¬ P → X) → (P → X) → X
+by_test_lem {test = true} d bad good = bad (d.broken refl)
+by_test_lem {test = false} d bad good = good (d.holds refl)
 
 -- two rules that one test decides are the same
-pub one-test : {test : Bool} {P Q : Type 0} → Decides test P → Decides test Q → P ↔ Q
-one-test d e = (λ p. e.holds (passes d p), λ q. d.holds (passes e q))
+pub one_test : {test : Bool} {P Q : Type 0} → Decides test P → Decides test Q → P ↔ Q
+one_test d e = (λ p. e.holds (passes d p), λ q. d.holds (passes e q))
 
 -- ---- a test whose value is known
 
@@ -53,8 +53,8 @@ denied bad = record { holds = λ e. absurd (false≢true e); broken = λ e. bad 
 
 -- ---- single tests
 
-pub not-below : (a b : ℕ) → Decides (ltb a b) (b ≤ a)
-not-below a b = record { holds = ltb-false a b; broken = λ e le. let lt : a < b = ltb-true a b e in omega arith }
+pub not_below : (a b : ℕ) → Decides (ltb a b) (b ≤ a)
+not_below a b = record { holds = ltb-false a b; broken = λ e le. let lt : a < b = ltb-true a b e in omega arith }
 
 pub positive : (a : ℕ) → Decides (eqb a 0) (0 < a)
 positive a =
@@ -74,8 +74,8 @@ equal a b = record { holds = eqb-true a b; broken = eqb-false a b }
 
 -- ---- joined ones
 
-pub same-rule : {test : Bool} {P Q : Type 0} → P ↔ Q → Decides test P → Decides test Q
-same-rule same d = record { holds = λ e. same.0 (d.holds e); broken = λ e q. d.broken e (same.1 q) }
+pub same_rule : {test : Bool} {P Q : Type 0} → P ↔ Q → Decides test P → Decides test Q
+same_rule same d = record { holds = λ e. same.0 (d.holds e); broken = λ e q. d.broken e (same.1 q) }
 
 pub unless : {test : Bool} {P : Type 0} → Shows test P → Decides (not test) P
 unless {test = true} d = always (d.holds refl)
@@ -86,12 +86,12 @@ neither {a = true} p q = never (λ pq. p.broken refl pq.0)
 neither {a = false} p q = record { holds = λ e. (p.holds refl, q.holds e); broken = λ e pq. q.broken e pq.1 }
 
 pub none_of : {a b c : Bool} {P Q R : Type 0} → Decides a P → Decides b Q → Decides c R → Decides (a || b || c) (P × Q × R)
-none_of p q r = same-rule (λ h. (h.0.0, h.0.1, h.1), λ h. ((h.0, h.1), h.2)) (neither (neither p q) r)
+none_of p q r = same_rule (λ h. (h.0.0, h.0.1, h.1), λ h. ((h.0, h.1), h.2)) (neither (neither p q) r)
 
 -- a rule that asks something only where a bit is set
-pub where-set : {bit test : Bool} {P : Type 0} → Decides test P → Decides (bit && test) (bit ≡ true → P)
-where-set {bit = true} d = record { holds = λ e set. d.holds e; broken = λ e rule. d.broken e (rule refl) }
-where-set {bit = false} d = always (λ set. absurd (false≢true set))
+pub where_set : {bit test : Bool} {P : Type 0} → Decides test P → Decides (bit && test) (bit ≡ true → P)
+where_set {bit = true} d = record { holds = λ e set. d.holds e; broken = λ e rule. d.broken e (rule refl) }
+where_set {bit = false} d = always (λ set. absurd (false≢true set))
 
 pub both : {a b : Bool} {P Q : Type 0} → Shows a P → Shows b Q → Shows (a && b) (P × Q)
 both {a = true} p q = record { holds = λ e. (p.holds refl, q.holds e); broken = λ e pq. q.broken e pq.1 }

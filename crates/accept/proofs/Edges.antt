@@ -7,35 +7,35 @@ use mathlib.Core.Logic.{◌↔◌}
 use Prim.Native.Nat.{ℕ, ◌<◌}
 use native.Mathlib.Omega.{arith}
 use lib.ListN.{length, set}
-use Rattle.section.specs.SectionS.{sectionS}
-use Rattle.accept.specs.computed.Checks.{verdict}
-use Rattle.accept.specs.Given.{long, numberOfRule}
-use Rattle.accept.specs.inner.Opened.{acceptOpened}
+use Rattle.section.specs.SectionS.{section_s}
+use Rattle.accept.specs.Computed.Checks.{verdict}
+use Rattle.accept.specs.Given.{long, number_of_rule}
+use Rattle.accept.specs.Inner.Opened.{accept_opened}
 use Rattle.accept.specs.declared.verdict.Verdict.TheVariants.{Refused}
-use Rattle.accept.proofs.Exactly.{given-exactly-when}
+use Rattle.accept.proofs.Exactly.{given_exactly_when}
 
 -- ---- 2: "more than 16,777,216 bytes"
 
-pub number-2-exactly-when : (s : List ℕ) (i : ℕ) → (verdict s ≡ Refused 2 i) ↔ ((i ≡ 0) × (16777216 < length s))
-unfolding numberOfRule
-number-2-exactly-when s i =
-    let given = given-exactly-when s long i in (
+pub number_2_exactly_when : (s : List ℕ) (i : ℕ) → (verdict s ≡ Refused 2 i) ↔ ((i ≡ 0) × (16777216 < length s))
+unfolding number_of_rule
+number_2_exactly_when s i =
+    let given = given_exactly_when s long i in (
       λ e. let (first, enough, above) = given.0 e in (first, omega arith),
       λ h. given.1 (h.0, omega arith, λ most. omega arith),
     )
 
-pub too-long-is-2 : (s : List ℕ) → 16777216 < length s → verdict s ≡ Refused 2 0
-too-long-is-2 s above = (number-2-exactly-when s 0).1 (refl, above)
+pub too_long_is_2 : (s : List ℕ) → 16777216 < length s → verdict s ≡ Refused 2 0
+too_long_is_2 s above = (number_2_exactly_when s 0).1 (refl, above)
 
-pub longest-is-not-2 : (s : List ℕ) (i : ℕ) → length s ≡ 16777216 → ¬ (verdict s ≡ Refused 2 i)
-longest-is-not-2 s i most e = let (first, above) = (number-2-exactly-when s i).0 e in omega arith
+pub longest_is_not_2 : (s : List ℕ) (i : ℕ) → length s ≡ 16777216 → ¬ (verdict s ≡ Refused 2 i)
+longest_is_not_2 s i most e = let (first, above) = (number_2_exactly_when s i).0 e in omega arith
 
 -- ---- 9 and 12: S with row type 8 in an entry's info byte, and with count 9 in a row's
 
-row-type-8 : verdict (set sectionS 44 0x08) ≡ Refused 9 0
-unfolding acceptOpened sectionS
-row-type-8 = refl
+row_type_8 : verdict (set section_s 44 0x08) ≡ Refused 9 0
+unfolding accept_opened section_s
+row_type_8 = refl
 
-count-9 : verdict (set sectionS 69 0x13) ≡ Refused 12 0
-unfolding acceptOpened sectionS
-count-9 = refl
+count_9 : verdict (set section_s 69 0x13) ≡ Refused 12 0
+unfolding accept_opened section_s
+count_9 = refl

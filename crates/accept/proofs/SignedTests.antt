@@ -19,5 +19,5 @@ turned (negsuc j) (negsuc k) true e = lt-leb j k (ltb-true k j e)
 turned (negsuc j) (negsuc k) false e = le-leb j k (ltb-false k j e)
 
 -- the same of two that are kept as i64
-pub not-above : (a b : ℤ) {test : Bool} → SFits w64 a → SFits w64 b → lt_z (to_z w64 (of_z w64 a)) (to_z w64 (of_z w64 b)) ≡ test → le_z b a ≡ not test
-not-above a b {test} f g e = turned a b test (rw (to_z-of_z f, to_z-of_z g) at e)
+pub not_above : (a b : ℤ) {test : Bool} → SFits w64 a → SFits w64 b → lt_z (to_z w64 (of_z w64 a)) (to_z w64 (of_z w64 b)) ≡ test → le_z b a ≡ not test
+not_above a b {test} f g e = turned a b test (rw (to_z-of_z f, to_z-of_z g) at e)

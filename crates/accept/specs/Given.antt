@@ -1,7 +1,7 @@
 -- The numbers of a check, 1 to 15, and when each is given (SPECIFICATION 3.16 and 3.17): its rule is broken there, and no test that
 -- document 01 tries earlier is.
 use Rattle.std.specs.Prelude.{◌≡◌, ◌⊎◌, List, [], ◌∷◌, ℕ, ◌≤◌, ◌<◌}
-use Rattle.accept.specs.Rules.{functionCount, rowCount, Rule1, Rule2, Rule3, Rule4, Rule5, Rule6, Rule7, Rule8, Rule9, Rule10, Rule11First, Rule11Fixed, Rule11Offsets, Rule12, Rule13, Rule14, Rule15, HeaderObeys, RowObeys, EntryObeys}
+use Rattle.accept.specs.Rules.{function_count, row_count, Rule1, Rule2, Rule3, Rule4, Rule5, Rule6, Rule7, Rule8, Rule9, Rule10, Rule11First, Rule11Fixed, Rule11Offsets, Rule12, Rule13, Rule14, Rule15, HeaderObeys, RowObeys, EntryObeys}
 use Rattle.accept.specs.declared.verdict.Verdict.{Verdict}
 use Rattle.accept.specs.declared.verdict.Verdict.TheVariants.{Accepted, Refused}
 
@@ -24,38 +24,38 @@ pub data Rule : Type 0 where
   rowSum : Rule
 
 -- their numbers
-unfoldable pub numberOfRule : Rule → ℕ
-numberOfRule short = 1
-numberOfRule long = 2
-numberOfRule magic = 3
-numberOfRule version = 4
-numberOfRule flags = 5
-numberOfRule abi = 6
-numberOfRule fixed = 7
-numberOfRule sizes = 8
-numberOfRule entryInfo = 9
-numberOfRule repeatSize = 10
-numberOfRule rowsInside = 11
-numberOfRule rowInfo = 12
-numberOfRule rowsRising = 13
-numberOfRule sorted = 14
-numberOfRule rowSum = 15
+unfoldable pub number_of_rule : Rule → ℕ
+number_of_rule short = 1
+number_of_rule long = 2
+number_of_rule magic = 3
+number_of_rule version = 4
+number_of_rule flags = 5
+number_of_rule abi = 6
+number_of_rule fixed = 7
+number_of_rule sizes = 8
+number_of_rule entryInfo = 9
+number_of_rule repeatSize = 10
+number_of_rule rowsInside = 11
+number_of_rule rowInfo = 12
+number_of_rule rowsRising = 13
+number_of_rule sorted = 14
+number_of_rule rowSum = 15
 
 -- document 01's number of a verdict, 0 where accepted, and what it carries: "its number and the entry's index"
-unfoldable pub verdictNumber : Verdict → ℕ
-verdictNumber Accepted = 0
-verdictNumber (Refused number index) = number
+unfoldable pub verdict_number : Verdict → ℕ
+verdict_number Accepted = 0
+verdict_number (Refused number index) = number
 
-unfoldable pub verdictIndexes : Verdict → List ℕ
-verdictIndexes Accepted = []
-verdictIndexes (Refused number index) = index ∷ []
+unfoldable pub verdict_indexes : Verdict → List ℕ
+verdict_indexes Accepted = []
+verdict_indexes (Refused number index) = index ∷ []
 
 -- ---- the order of trying
 
 -- entry i is tried: the header and every earlier entry obey
 pub record Reached (s : List ℕ) (i : ℕ) : Type 0 where
   pub header : HeaderObeys s
-  pub inside : i < functionCount s
+  pub inside : i < function_count s
   pub earlier : (j : ℕ) → j < i → EntryObeys s j
 
 -- the rows of entry i are tried: so is the entry, and it passes 9, 10 and the first part of 11
@@ -68,7 +68,7 @@ pub record RowsReached (s : List ℕ) (i : ℕ) : Type 0 where
 -- row k of entry i is tried: every earlier row obeys
 pub record RowReached (s : List ℕ) (i k : ℕ) : Type 0 where
   pub rows : RowsReached s i
-  pub inside : k < rowCount s i
+  pub inside : k < row_count s i
   pub earlier : (j : ℕ) → j < k → RowObeys s i j
 
 -- 11 at row k of entry i: its fixed part, or, with a sound info byte, its offsets
@@ -91,8 +91,8 @@ Given s rowsInside i =
     (Reached s i × Rule9 s i × Rule10 s i × ¬ Rule11First s i) ⊎ ((k : ℕ) × RowReached s i k × RowEndsPast s i k)
 Given s rowInfo i = (k : ℕ) × RowReached s i k × Rule11Fixed s i k × ¬ Rule12 s i k
 Given s rowsRising i = (k : ℕ) × RowReached s i k × Rule11Fixed s i k × Rule12 s i k × Rule11Offsets s i k × ¬ Rule13 s i k
-Given s sorted i = RowsReached s i × ((k : ℕ) → k < rowCount s i → RowObeys s i k) × ¬ Rule14 s i
-Given s rowSum i = (i ≡ 0) × HeaderObeys s × ((j : ℕ) → j < functionCount s → EntryObeys s j) × ¬ Rule15 s
+Given s sorted i = RowsReached s i × ((k : ℕ) → k < row_count s i → RowObeys s i k) × ¬ Rule14 s i
+Given s rowSum i = (i ≡ 0) × HeaderObeys s × ((j : ℕ) → j < function_count s → EntryObeys s j) × ¬ Rule15 s
 
 -- the rule is the first broken one, in the entry with some index
 abbrev pub BrokenFirst : List ℕ → Rule → Type 0
@@ -100,4 +100,4 @@ BrokenFirst s rule = (index : ℕ) × Given s rule index
 
 -- the rule is one of the header's, which have the numbers 1 to 8, and the first broken one
 abbrev pub HeaderBreaks : List ℕ → Rule → Type 0
-HeaderBreaks s rule = (numberOfRule rule ≤ 8) × Given s rule 0
+HeaderBreaks s rule = (number_of_rule rule ≤ 8) × Given s rule 0

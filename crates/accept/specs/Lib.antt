@@ -1,5 +1,5 @@
 pub mod Given
 pub mod Rules
 pub mod Tried
-pub mod computed
-pub mod inner
+pub mod Computed
+pub mod Inner

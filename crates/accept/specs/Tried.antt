@@ -5,21 +5,21 @@ use Rattle.std.specs.Prelude.{◌≡◌, List, ℕ, ◌+◌, ◌*◌, ◌^◌, �
 use Rattle.numbers.specs.Agree.{InSpan, AgreeOn}
 use Rattle.section.specs.Entry.{type_of}
 use Rattle.section.specs.Header.{layout_of}
-use Rattle.section.specs.Meaning.{areaOf, shape_of, entryIn}
-use Rattle.section.specs.Row.{rowPlace}
+use Rattle.section.specs.Meaning.{area_of, shape_of, entry_in}
+use Rattle.section.specs.Row.{row_place}
 use Rattle.section.specs.declared.shape.Shape.{Shape}
-use Rattle.accept.specs.computed.Checks.{rowFaultIn}
+use Rattle.accept.specs.Computed.Checks.{row_fault_in}
 use Rattle.accept.specs.declared.verdict.Fault.TheVariants.{Sound}
 
 -- row k is tried: no row before it has a fault
 abbrev pub RowTried : List ℕ → Shape → ℕ → ℕ → ℕ → ℕ → Type 0
-RowTried area shape code first count k = (k < count) × ((j : ℕ) → j < k → rowFaultIn area shape code first j ≡ Sound)
+RowTried area shape code first count k = (k < count) × ((j : ℕ) → j < k → row_fault_in area shape code first j ≡ Sound)
 
 -- byte p of the row area is looked at
 pub record TriedAt (area : List ℕ) (shape : Shape) (code first count p : ℕ) : Type 0 where
   pub row : ℕ
   pub tried : RowTried area shape code first count row
-  pub span : InSpan (rowPlace area code first row) (2 ^ code + 1) p
+  pub span : InSpan (row_place area code first row) (2 ^ code + 1) p
 
 -- ---- a whole section
 
@@ -30,4 +30,4 @@ pub record CheckAlike (s t : List ℕ) : Type 0 where
   pub header : AgreeOn (InSpan 0 28) s t
   pub table : AgreeOn (InSpan (layout_of s).table (20 * (layout_of s).functions)) s t
   pub rows : (i : ℕ) → i < (layout_of s).functions
-      → AgreeOn (TriedAt (areaOf s) (shape_of s) (type_of (entryIn s i).info) (entryIn s i).first (entryIn s i).rows) (areaOf s) (areaOf t)
+      → AgreeOn (TriedAt (area_of s) (shape_of s) (type_of (entry_in s i).info) (entry_in s i).first (entry_in s i).rows) (area_of s) (area_of t)

@@ -1,7 +1,7 @@
 // Checks 9 to 13 of one entry by itself, over the row area.
 ghost use Rattle.std.specs.Prelude.{◌&&◌, ◌≡◌, eqb};
 ghost use Rattle.section.specs.Entry.{repeats};
-ghost use Rattle.accept.specs.computed.Checks.{wrongEntryInfo, entryFault};
+ghost use Rattle.accept.specs.Computed.Checks.{wrong_entry_info, entry_fault};
 
 use crate::row_check::check_rows;
 use crate::verdict::Fault;
@@ -11,7 +11,7 @@ use section::shape::Shape;
 
 // Whether an info byte has bit 6 or 7 set, or a row type above 2.
 pub fn wrong_entry_info(info: u8) -> bool
-    ensures { result ≡ wrongEntryInfo info }
+    ensures { result ≡ wrong_entry_info info }
 {
     if bit_of(6, info) {
         return true;
@@ -40,7 +40,7 @@ pub fn wrong_repeat(info: u8, repeat: u8) -> bool
 
 // An entry, with its rows.
 pub fn check_entry(area: &[u8], shape: Shape, entry: Entry) -> Fault
-    ensures { result ≡ entryFault area.now shape entry }
+    ensures { result ≡ entry_fault area.now shape entry }
 {
     if wrong_entry_info(entry.info) {
         return Fault::Breaks(9);

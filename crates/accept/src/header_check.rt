@@ -1,8 +1,8 @@
 // Checks 1 to 8: the header by itself.
 ghost use Rattle.std.specs.Prelude.{◌||◌, ◌≡◌, ◌≤◌, length, drop};
 ghost use Rattle.numbers.specs.declared.field.Order.TheVariants.{Little, Big};
-ghost use Rattle.section.specs.Header.{magicIn};
-ghost use Rattle.accept.specs.computed.Checks.{firstBad, sameOrder, sameOffset, wrongAbi, wrongFixed, wrongSizes, headerTests, headerFault};
+ghost use Rattle.section.specs.Header.{magic_in};
+ghost use Rattle.accept.specs.Computed.Checks.{first_bad, same_order, same_offset, wrong_abi, wrong_fixed, wrong_sizes, header_tests, header_fault};
 
 use crate::verdict::Fault;
 use numbers::field::Order;
@@ -15,7 +15,7 @@ const MOST: usize = 16_777_216;
 
 fn has_magic(section: &[u8]) -> bool
     requires { 28 ≤ length section.now }
-    ensures { result ≡ magicIn section.now Little || magicIn section.now Big }
+    ensures { result ≡ magic_in section.now Little || magic_in section.now Big }
 {
     if magic_in(section, Order::Little) {
         return true;
@@ -24,7 +24,7 @@ fn has_magic(section: &[u8]) -> bool
 }
 
 fn same_order(one: Order, other: Order) -> bool
-    ensures { result ≡ sameOrder one other }
+    ensures { result ≡ same_order one other }
 {
     match one {
         Order::Little => match other {
@@ -39,7 +39,7 @@ fn same_order(one: Order, other: Order) -> bool
 }
 
 fn same_offset(one: Offset, other: Offset) -> bool
-    ensures { result ≡ sameOffset one other }
+    ensures { result ≡ same_offset one other }
 {
     if other.by < one.by {
         return false;
@@ -52,7 +52,7 @@ fn same_offset(one: Offset, other: Offset) -> bool
 
 // Whether the ABI is none that is known, or disagrees with the byte order.
 fn wrong_abi(code: u8, order: Order) -> bool
-    ensures { result ≡ wrongAbi code order }
+    ensures { result ≡ wrong_abi code order }
 {
     if code < 1 {
         return true;
@@ -70,7 +70,7 @@ fn wrong_abi(code: u8, order: Order) -> bool
 
 // Whether the fixed offsets are not those of the ABI.
 fn wrong_fixed(marks: Marks) -> bool
-    ensures { result ≡ wrongFixed marks }
+    ensures { result ≡ wrong_fixed marks }
 {
     let shape = shape_of(abi_of(marks.abi));
     let fp = shape.fixedfp;
@@ -87,7 +87,7 @@ fn wrong_fixed(marks: Marks) -> bool
 
 // Whether an offset is not where it must be, or the parts do not add up to the length.
 fn wrong_sizes(all: u64, auxiliary: u8, sizes: Sizes) -> bool
-    ensures { result ≡ wrongSizes all auxiliary sizes }
+    ensures { result ≡ wrong_sizes all auxiliary sizes }
 {
     let entries = 20 * sizes.functions as u64;
     if sizes.tableoffset != 0 {
@@ -105,7 +105,7 @@ fn wrong_sizes(all: u64, auxiliary: u8, sizes: Sizes) -> bool
 // 4 to 8.
 fn check_parts(section: &[u8]) -> Fault
     requires { 28 ≤ length section.now }
-    ensures { result ≡ firstBad (drop 3 (headerTests section.now)) }
+    ensures { result ≡ first_bad (drop 3 (header_tests section.now)) }
 {
     let order = order_at(section);
     let marks = marks_at(section);
@@ -132,7 +132,7 @@ fn check_parts(section: &[u8]) -> Fault
 }
 
 pub fn check_header(section: &[u8]) -> Fault
-    ensures { result ≡ headerFault section.now }
+    ensures { result ≡ header_fault section.now }
 {
     if section.len() < 28 {
         return Fault::Breaks(1);

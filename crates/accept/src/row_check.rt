@@ -1,6 +1,6 @@
 // Checks 11 to 13 of the rows of one function, row by row: fixed part inside, info, offsets inside, start.
 ghost use Rattle.std.specs.Prelude.{◌≡◌, ◌≤◌, length, take};
-ghost use Rattle.accept.specs.computed.Checks.{firstBad, wrongRowInfo, rowTests, rowsFault};
+ghost use Rattle.accept.specs.Computed.Checks.{first_bad, wrong_row_info, row_tests, rows_fault};
 
 use crate::verdict::Fault;
 use numbers::field::{field_at, width_of};
@@ -9,7 +9,7 @@ use section::shape::Shape;
 
 // Whether an info byte has offset size 3 or a count that is not allowed.
 fn wrong_row_info(most: u8, info: u8) -> bool
-    ensures { result ≡ wrongRowInfo most info }
+    ensures { result ≡ wrong_row_info most info }
 {
     if offset_size_of(info) == 3 {
         return true;
@@ -26,7 +26,7 @@ fn wrong_row_info(most: u8, info: u8) -> bool
 // The row at `at`, but for its start: fixed part inside, info, offsets inside.
 pub fn check_row(area: &[u8], shape: Shape, code: usize, at: usize) -> Fault
     requires { (code ≤ 2) × (at ≤ length area.now) }
-    ensures { result ≡ firstBad (take 3 (rowTests area.now shape code at 0)) }
+    ensures { result ≡ first_bad (take 3 (row_tests area.now shape code at 0)) }
 {
     if area.len() < at + width_of(code) + 1 {
         return Fault::Breaks(11);
@@ -44,7 +44,7 @@ pub fn check_row(area: &[u8], shape: Shape, code: usize, at: usize) -> Fault
 // is read once, for its own test and for the next row's.
 fn walk_rows(area: &[u8], shape: Shape, code: usize, first: usize, count: u32) -> Fault
     requires { (code ≤ 2) × (first ≤ length area.now) }
-    ensures { result ≡ rowsFault area.now shape code first count }
+    ensures { result ≡ rows_fault area.now shape code first count }
 {
     let order = shape.order;
     let mut at = first;
@@ -71,7 +71,7 @@ fn walk_rows(area: &[u8], shape: Shape, code: usize, first: usize, count: u32) -
 // The rows by their type, told apart outside the walk, so that each walk is compiled for its own width of start.
 pub fn check_rows(area: &[u8], shape: Shape, code: usize, first: usize, count: u32) -> Fault
     requires { (code ≤ 2) × (first ≤ length area.now) }
-    ensures { result ≡ rowsFault area.now shape code first count }
+    ensures { result ≡ rows_fault area.now shape code first count }
 {
     match code {
         0 => walk_rows(area, shape, 0, first, count),

@@ -1,7 +1,7 @@
 // The whole check: the header, each entry in order by itself and beside the one before it, and the sum of the row counts.
 ghost use Rattle.std.specs.Prelude.{◌&&◌, not, [], ◌∷◌, ◌≡◌, eqb, ltb};
-ghost use Rattle.accept.specs.computed.Checks.{firstBad, and_then, givenAt, headerFault, entryFault, entriesVerdict, verdict};
-ghost use Rattle.accept.specs.inner.Requires.{PartsOf};
+ghost use Rattle.accept.specs.Computed.Checks.{first_bad, and_then, given_at, header_fault, entry_fault, entries_verdict, verdict};
+ghost use Rattle.accept.specs.Inner.Requires.{PartsOf};
 ghost use Rattle.accept.specs.declared.verdict.Fault.TheVariants.{Sound};
 
 use crate::entry_check::check_entry;
@@ -27,7 +27,7 @@ fn starts_below(sorted: bool, start: u64, low: u64) -> bool
 
 // An entry by itself, and beside the one before it.
 fn check_turn(area: &[u8], shape: Shape, sorted: bool, entry: Entry, start: u64, low: u64) -> Fault
-    ensures { result ≡ and_then (entryFault area.now shape entry) (firstBad ((sorted && ltb start low, 14) ∷ [])) }
+    ensures { result ≡ and_then (entry_fault area.now shape entry) (first_bad ((sorted && ltb start low, 14) ∷ [])) }
 {
     match check_entry(area, shape, entry) {
         Fault::Breaks(number) => Fault::Breaks(number),
@@ -42,7 +42,7 @@ fn check_turn(area: &[u8], shape: Shape, sorted: bool, entry: Entry, start: u64,
 
 // The row counts of all entries, added up, against the header's.
 fn check_sum(rows: u64, said: u32) -> Verdict
-    ensures { result ≡ givenAt 0 (firstBad ((not (eqb rows said), 15) ∷ [])) }
+    ensures { result ≡ given_at 0 (first_bad ((not (eqb rows said), 15) ∷ [])) }
 {
     if rows == said as u64 {
         return Verdict::Accepted;
@@ -56,7 +56,7 @@ fn check_sum(rows: u64, said: u32) -> Verdict
 // Each entry in order. `low` is where the entry before ends, as it is held, and 0 before the first.
 fn check_each(section: &[u8], area: &[u8], layout: Layout, shape: Shape, order: Order) -> Verdict
     requires { PartsOf section.now area.now layout shape order }
-    ensures { result ≡ entriesVerdict section.now }
+    ensures { result ≡ entries_verdict section.now }
 {
     let mut low = 0;
     let mut rows = 0;
@@ -81,8 +81,8 @@ fn check_each(section: &[u8], area: &[u8], layout: Layout, shape: Shape, order: 
 }
 
 fn check_entries(section: &[u8]) -> Verdict
-    requires { headerFault section.now ≡ Sound }
-    ensures { result ≡ entriesVerdict section.now }
+    requires { header_fault section.now ≡ Sound }
+    ensures { result ≡ entries_verdict section.now }
 {
     let layout = layout_at(section);
     let abi = layout.abi;

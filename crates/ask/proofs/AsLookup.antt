@@ -8,93 +8,93 @@ use lib.IntN.{ℤ}
 use lib.ListN.{get_or}
 use Rattle.numbers.specs.Start.{distance}
 use Rattle.section.specs.Header.{layout_of}
-use Rattle.section.specs.Meaning.{functionIn, functionsOf}
-use Rattle.accept.specs.Rules.{functionCount}
-use Rattle.accept.specs.computed.Checks.{verdict}
+use Rattle.section.specs.Meaning.{function_in, functions_of}
+use Rattle.accept.specs.Rules.{function_count}
+use Rattle.accept.specs.Computed.Checks.{verdict}
 use Rattle.accept.specs.declared.verdict.Verdict.TheVariants.{Accepted}
-use Rattle.accept.proofs.AcceptedLaws.{accepted-laws}
-use Rattle.lookup.specs.Halving.{emptyFunction, landing, compared}
-use Rattle.lookup.specs.Numbers.{outcomeNumber, outcomeIndexes, outcomeRow}
-use Rattle.lookup.specs.computed.Answers as look
-use Rattle.lookup.specs.computed.Answers.{withCover, outcome, answer, answer_of, answerAfter, lookupOf}
-use Rattle.lookup.specs.computed.Covering.{covers, covering, coverOf}
-use Rattle.lookup.specs.computed.Rows.{rowFor}
+use Rattle.accept.proofs.AcceptedLaws.{accepted_laws}
+use Rattle.lookup.specs.Halving.{empty_function, landing, compared}
+use Rattle.lookup.specs.Numbers.{outcome_number, outcome_indexes, outcome_row}
+use Rattle.lookup.specs.Computed.Answers as look
+use Rattle.lookup.specs.Computed.Answers.{with_cover, outcome, answer, answer_of, answer_after, lookup_of}
+use Rattle.lookup.specs.Computed.Covering.{covers, covering, cover_of}
+use Rattle.lookup.specs.Computed.Rows.{row_for}
 use Rattle.lookup.specs.declared.answer.Answer.{Answer}
 use Rattle.lookup.specs.declared.answer.Outcome.{Outcome}
 use Rattle.lookup.specs.declared.answer.Outcome.TheVariants as outcome
 use Rattle.lookup.specs.declared.rows.Scan.{Scan}
 use Rattle.lookup.specs.declared.rows.Scan.TheVariants.{Missed, Hit}
 use Rattle.lookup.specs.declared.search.Cover.TheVariants.{Nobody, One}
-use Rattle.lookup.specs.inner.Search.{landedOn, coverBy}
-use Rattle.lookup.proofs.CaseLaws.{functions-at}
+use Rattle.lookup.specs.Inner.Search.{landed_on, cover_by}
+use Rattle.lookup.proofs.CaseLaws.{functions_at}
 use Rattle.lookup.proofs.CoveringLaws.{by_value}
-use Rattle.lookup.proofs.SearchLaws.{search-finds-covering}
-use Rattle.ask.specs.Cases.{CanBeAsked, LandsIn, comparedIn}
-use Rattle.ask.specs.Numbers.{numberOfUnanswered, askNumber, askIndexes, askRow, askCompared, SameAnswer}
-use Rattle.ask.specs.computed.Ask.{with_row, askOf}
+use Rattle.lookup.proofs.SearchLaws.{search_finds_covering}
+use Rattle.ask.specs.Cases.{CanBeAsked, LandsIn, compared_in}
+use Rattle.ask.specs.Numbers.{number_of_unanswered, ask_number, ask_indexes, ask_row, ask_compared, SameAnswer}
+use Rattle.ask.specs.Computed.Ask.{with_row, ask_of}
 use Rattle.ask.specs.declared.answer.AskAnswer.TheVariants.{NoFunction}
-use Rattle.ask.proofs.CaseLaws.{landed-there, set-covers, own-rules, ask-nowhere, ask-beside, ask-rows}
+use Rattle.ask.proofs.CaseLaws.{landed_there, set_covers, own_rules, ask_nowhere, ask_beside, ask_rows}
 
 module _ (s : List ℕ) (accepted : verdict s ≡ Accepted) (sorted : (layout_of s).sorted ≡ true) (address pc : ℕ) where
   abbrev d : ℤ
   d = distance address pc
 
   can-be-asked : CanBeAsked s
-  can-be-asked = ((accepted-laws s accepted).header, sorted)
+  can-be-asked = ((accepted_laws s accepted).header, sorted)
 
   -- a lookup's answer with the count of the halving
   abbrev counted : Outcome → Answer
-  counted o = record { outcome = o; compared = comparedIn s d }
+  counted o = record { outcome = o; compared = compared_in s d }
 
   -- what a lookup finds is what covers of the function landed on
-  one-cover : coverOf (covering d (functionsOf s)) ≡ landedOn d (functionsOf s) (landing d (functionsOf s)).low
-  unfolding coverBy
-  one-cover = sym (search-finds-covering s accepted d) ∙ ap (λ set. coverBy set d (functionsOf s)) sorted
+  one-cover : cover_of (covering d (functions_of s)) ≡ landed_on d (functions_of s) (landing d (functions_of s)).low
+  unfolding cover_by
+  one-cover = sym (search_finds_covering s accepted d) ∙ ap (λ set. cover_by set d (functions_of s)) sorted
 
-  looked : lookupOf s address pc ≡ counted (withCover d (functionsOf s) (landedOn d (functionsOf s) (landing d (functionsOf s)).low))
-  unfolding lookupOf answerAfter answer_of answer outcome compared
+  looked : lookup_of s address pc ≡ counted (with_cover d (functions_of s) (landed_on d (functions_of s) (landing d (functions_of s)).low))
+  unfolding lookup_of answer_after answer_of answer outcome compared
   looked = rw (accepted, one-cover, sorted)
 
   -- by whether the function landed on covers
-  there : (i : ℕ) → i < functionCount s → {t : Bool} → covers d (functionIn s i) ≡ t → covers d (get_or (functionsOf s) i emptyFunction) ≡ t
-  there i inside e = ap (covers d) (functions-at s i inside) ∙ e
+  there : (i : ℕ) → i < function_count s → {t : Bool} → covers d (function_in s i) ≡ t → covers d (get_or (functions_of s) i empty_function) ≡ t
+  there i inside e = ap (covers d) (functions_at s i inside) ∙ e
 
-  it-covers : (i : ℕ) → i < functionCount s → covers d (functionIn s i) ≡ true
-      → withCover d (functionsOf s) (landedOn d (functionsOf s) (suc i)) ≡ look.with_row i (rowFor d (functionIn s i))
-  unfolding withCover landedOn
+  it-covers : (i : ℕ) → i < function_count s → covers d (function_in s i) ≡ true
+      → with_cover d (functions_of s) (landed_on d (functions_of s) (suc i)) ≡ look.with_row i (row_for d (function_in s i))
+  unfolding with_cover landed_on
   it-covers i inside set =
-      let one : landedOn d (functionsOf s) (suc i) ≡ One i = rw (there i inside set, landedOn) in
-      ap (withCover d (functionsOf s)) one ∙ ap (λ f. look.with_row i (rowFor d f)) (functions-at s i inside)
+      let one : landed_on d (functions_of s) (suc i) ≡ One i = rw (there i inside set, landed_on) in
+      ap (with_cover d (functions_of s)) one ∙ ap (λ f. look.with_row i (row_for d f)) (functions_at s i inside)
 
-  it-does-not : (i : ℕ) → i < functionCount s → covers d (functionIn s i) ≡ false
-      → withCover d (functionsOf s) (landedOn d (functionsOf s) (suc i)) ≡ outcome.NoFunction
-  unfolding withCover landedOn
+  it-does-not : (i : ℕ) → i < function_count s → covers d (function_in s i) ≡ false
+      → with_cover d (functions_of s) (landed_on d (functions_of s) (suc i)) ≡ outcome.NoFunction
+  unfolding with_cover landed_on
   it-does-not i inside unset =
-      let none : landedOn d (functionsOf s) (suc i) ≡ Nobody = rw (there i inside unset, landedOn) in
-      ap (withCover d (functionsOf s)) none
+      let none : landed_on d (functions_of s) (suc i) ≡ Nobody = rw (there i inside unset, landed_on) in
+      ap (with_cover d (functions_of s)) none
 
-  nothing-found : withCover d (functionsOf s) (landedOn d (functionsOf s) (landing d (functionsOf s)).low) ≡ outcome.NoFunction
-      → askOf s address pc ≡ NoFunction (comparedIn s d) → SameAnswer (askOf s address pc) (lookupOf s address pc)
-  unfolding askNumber askIndexes askRow askCompared numberOfUnanswered outcomeNumber outcomeIndexes outcomeRow
+  nothing-found : with_cover d (functions_of s) (landed_on d (functions_of s) (landing d (functions_of s)).low) ≡ outcome.NoFunction
+      → ask_of s address pc ≡ NoFunction (compared_in s d) → SameAnswer (ask_of s address pc) (lookup_of s address pc)
+  unfolding ask_number ask_indexes ask_row ask_compared number_of_unanswered outcome_number outcome_indexes outcome_row
   nothing-found none asked = rw (asked, looked, none) (record { number = refl; indexes = refl; row = refl; compared = refl })
 
-  one-row : (i : ℕ) (scan : Scan) → SameAnswer (with_row i (comparedIn s d) scan) (counted (look.with_row i scan))
-  unfolding with_row look.with_row askNumber askIndexes askRow askCompared numberOfUnanswered outcomeNumber outcomeIndexes outcomeRow
-  one-row i Missed = record { number = refl; indexes = refl; row = refl; compared = refl }
-  one-row i (Hit row number) = record { number = refl; indexes = refl; row = refl; compared = refl }
+  one_row : (i : ℕ) (scan : Scan) → SameAnswer (with_row i (compared_in s d) scan) (counted (look.with_row i scan))
+  unfolding with_row look.with_row ask_number ask_indexes ask_row ask_compared number_of_unanswered outcome_number outcome_indexes outcome_row
+  one_row i Missed = record { number = refl; indexes = refl; row = refl; compared = refl }
+  one_row i (Hit row number) = record { number = refl; indexes = refl; row = refl; compared = refl }
 
   -- "On an accepted sorted section its row, refusal and count equal the full answer."
-  pub ask-as-lookup : SameAnswer (askOf s address pc) (lookupOf s address pc)
-  unfolding withCover landedOn
-  ask-as-lookup = by (landing d (functionsOf s)).low refl
+  pub ask_as_lookup : SameAnswer (ask_of s address pc) (lookup_of s address pc)
+  unfolding with_cover landed_on
+  ask_as_lookup = by (landing d (functions_of s)).low refl
     where
-      by : (low : ℕ) → (landing d (functionsOf s)).low ≡ low → SameAnswer (askOf s address pc) (lookupOf s address pc)
-      by zero is = nothing-found (rw is) (ask-nowhere s address pc can-be-asked is)
+      by : (low : ℕ) → (landing d (functions_of s)).low ≡ low → SameAnswer (ask_of s address pc) (lookup_of s address pc)
+      by zero is = nothing-found (rw is) (ask_nowhere s address pc can-be-asked is)
       by (suc i) is =
-          let inside = landed-there s d i is in
-          by_value (covers d (functionIn s i))
+          let inside = landed_there s d i is in
+          by_value (covers d (function_in s i))
           (λ set.
-          let sound = (own-rules s i).0 ((accepted-laws s accepted).entries i inside) in
-          let lands : LandsIn s d i = record { asked = can-be-asked; landed = is; covered = set-covers s d i inside set } in
-          rw (ask-rows s address pc i lands sound, looked, is, it-covers i inside set) (one-row i (rowFor d (functionIn s i))))
-          (λ unset. nothing-found (rw is (it-does-not i inside unset)) (ask-beside s address pc can-be-asked i is unset))
+          let sound = (own_rules s i).0 ((accepted_laws s accepted).entries i inside) in
+          let lands : LandsIn s d i = record { asked = can-be-asked; landed = is; covered = set_covers s d i inside set } in
+          rw (ask_rows s address pc i lands sound, looked, is, it-covers i inside set) (one_row i (row_for d (function_in s i))))
+          (λ unset. nothing-found (rw is (it-does-not i inside unset)) (ask_beside s address pc can-be-asked i is unset))

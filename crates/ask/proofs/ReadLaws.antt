@@ -13,25 +13,25 @@ use lib.ListN.{length, length-append}
 use Rattle.numbers.specs.Agree.{InSpan}
 use Rattle.numbers.specs.Start.{distance}
 use Rattle.section.specs.Header.{layout_of}
-use Rattle.section.specs.Meaning.{listed, functionsOf}
-use Rattle.section.proofs.ListedLaws.{listed-length}
-use Rattle.accept.specs.Rules.{functionCount}
-use Rattle.accept.specs.computed.Checks.{headerFault}
+use Rattle.section.specs.Meaning.{listed, functions_of}
+use Rattle.section.proofs.ListedLaws.{listed_length}
+use Rattle.accept.specs.Rules.{function_count}
+use Rattle.accept.specs.Computed.Checks.{header_fault}
 use Rattle.accept.specs.declared.verdict.Fault.{Fault}
 use Rattle.accept.specs.declared.verdict.Fault.TheVariants.{Sound, Breaks}
-use Rattle.accept.proofs.AcceptedLaws.{few-functions, area-inside, entry-inside}
-use Rattle.accept.proofs.Exactly.{header-exactly-when}
-use Rattle.accept.proofs.HeaderLaws.{breaks-not-obeys}
-use Rattle.lookup.proofs.CaseLaws.{functions-count}
+use Rattle.accept.proofs.AcceptedLaws.{few_functions, area_inside, entry_inside}
+use Rattle.accept.proofs.Exactly.{header_exactly_when}
+use Rattle.accept.proofs.HeaderLaws.{breaks_not_obeys}
+use Rattle.lookup.proofs.CaseLaws.{functions_count}
 use Rattle.lookup.proofs.CoveringLaws.{by_value}
-use Rattle.lookup.proofs.HalvingLaws.{count-twenty}
+use Rattle.lookup.proofs.HalvingLaws.{count_twenty}
 use Rattle.ask.specs.Cases.{CanBeAsked}
-use Rattle.ask.specs.Compared.{entriesCompared}
+use Rattle.ask.specs.Compared.{entries_compared}
 use Rattle.ask.specs.ReadBy.{Compared, ReadAt, of-header, of_entry, of_row, ReadBy, InLandedRows, AtMostBesideRows}
-use Rattle.ask.specs.computed.Ask.{askOf}
+use Rattle.ask.specs.Computed.Ask.{ask_of}
 use Rattle.ask.specs.declared.answer.AskAnswer.TheVariants.{NoFunction}
-use Rattle.ask.proofs.ComparedLaws.{as-many-compared, compared-within}
-use Rattle.ask.proofs.Exactly.{no-function-means}
+use Rattle.ask.proofs.ComparedLaws.{as_many_compared, compared_within}
+use Rattle.ask.proofs.Exactly.{no_function_means}
 
 -- ---- inside
 
@@ -40,20 +40,20 @@ module _ (s : List ℕ) (address pc : ℕ) where
   d = distance address pc
 
   -- it never "reads outside the section, accepted or not"
-  pub read-inside : (p : ℕ) → ReadBy s address pc p → p < length s
-  read-inside p (of-header span lt) = lt
-  read-inside p (of_entry asked i member span) =
-      let there : i < functionCount s = rw (← functions-count s) (compared-within d (functionsOf s) i member) in
-      omega (arith, span.1, entry-inside asked.0 i there, area-inside asked.0)
-  read-inside p (of_row i k lands reached span lt) = lt
+  pub read_inside : (p : ℕ) → ReadBy s address pc p → p < length s
+  read_inside p (of-header span lt) = lt
+  read_inside p (of_entry asked i member span) =
+      let there : i < function_count s = rw (← functions_count s) (compared_within d (functions_of s) i member) in
+      omega (arith, span.1, entry_inside asked.0 i there, area_inside asked.0)
+  read_inside p (of_row i k lands reached span lt) = lt
 
   -- 21 says nothing of rows: none is read
-  pub no-row-read : (compared : ℕ) → askOf s address pc ≡ NoFunction compared → (p : ℕ) → ReadBy s address pc p
+  pub no_row_read : (compared : ℕ) → ask_of s address pc ≡ NoFunction compared → (p : ℕ) → ReadBy s address pc p
       → InSpan 0 28 p ⊎ ((i : ℕ) × Compared s d i × InSpan ((layout_of s).table + 20 * i) 20 p)
-  no-row-read compared is p (of-header span lt) = inl span
-  no-row-read compared is p (of_entry asked i member span) = inr (i, member, span)
-  no-row-read compared is p (of_row i k lands reached span lt) =
-      absurd (no-function-means s address pc compared is i lands.landed lands.covered)
+  no_row_read compared is p (of-header span lt) = inl span
+  no_row_read compared is p (of_entry asked i member span) = inr (i, member, span)
+  no_row_read compared is p (of_row i k lands reached span lt) =
+      absurd (no_function_means s address pc compared is i lands.landed lands.covered)
 
 -- ---- how many
 
@@ -71,54 +71,54 @@ in_span (suc width) from p span =
     (eq-or-lt_of_le span.0)
 
 -- of entries with these indexes
-entryPlaces : ℕ → List ℕ → List ℕ
-entryPlaces table [] = []
-entryPlaces table (i ∷ is) = span_of (table + 20 * i) 20 ++ entryPlaces table is
+entry_places : ℕ → List ℕ → List ℕ
+entry_places table [] = []
+entry_places table (i ∷ is) = span_of (table + 20 * i) 20 ++ entry_places table is
 
-entries-long : (table : ℕ) (is : List ℕ) → length (entryPlaces table is) ≡ 20 * length is
-unfolding entryPlaces
-entries-long table [] = refl
-entries-long table (i ∷ is) =
-    length-append (span_of (table + 20 * i) 20) (entryPlaces table is)
-    ∙ rw (listed-length (λ p. p) 20 (table + 20 * i), entries-long table is) (omega arith)
+entries_long : (table : ℕ) (is : List ℕ) → length (entry_places table is) ≡ 20 * length is
+unfolding entry_places
+entries_long table [] = refl
+entries_long table (i ∷ is) =
+    length-append (span_of (table + 20 * i) 20) (entry_places table is)
+    ∙ rw (listed_length (λ p. p) 20 (table + 20 * i), entries_long table is) (omega arith)
 
-in-entries : (table : ℕ) (is : List ℕ) (i p : ℕ) → Memᴰ i is → InSpan (table + 20 * i) 20 p → Memᴰ p (entryPlaces table is)
-unfolding entryPlaces
-in-entries table [] i p member span = absurd (Memᴰ.not-nil member)
-in-entries table (j ∷ is) i p member span =
+in_entries : (table : ℕ) (is : List ℕ) (i p : ℕ) → Memᴰ i is → InSpan (table + 20 * i) 20 p → Memᴰ p (entry_places table is)
+unfolding entry_places
+in_entries table [] i p member span = absurd (Memᴰ.not-nil member)
+in_entries table (j ∷ is) i p member span =
     ⊎_elim
-    (λ same. Memᴰ.append_left (entryPlaces table is) (in_span 20 (table + 20 * j) p (rw same at span)))
-    (λ later. Memᴰ.append_right (span_of (table + 20 * j) 20) (in-entries table is i p later span))
+    (λ same. Memᴰ.append_left (entry_places table is) (in_span 20 (table + 20 * j) p (rw same at span)))
+    (λ later. Memᴰ.append_right (span_of (table + 20 * j) 20) (in_entries table is i p later span))
     (Memᴰ.cases_cons member)
 
 module _ (s : List ℕ) (d : ℤ) where
-  abbrev headerAndEntries : List ℕ
-  headerAndEntries = span_of 0 28 ++ entryPlaces (layout_of s).table (entriesCompared d (functionsOf s))
+  abbrev header_and_entries : List ℕ
+  header_and_entries = span_of 0 28 ++ entry_places (layout_of s).table (entries_compared d (functions_of s))
 
-  at-most-twenty : CanBeAsked s → length (entriesCompared d (functionsOf s)) ≤ 20
+  at-most-twenty : CanBeAsked s → length (entries_compared d (functions_of s)) ≤ 20
   at-most-twenty asked =
-      rw (as-many-compared d (functionsOf s)) (count-twenty d (functionsOf s) (rw functions-count (few-functions asked.0)))
+      rw (as_many_compared d (functions_of s)) (count_twenty d (functions_of s) (rw functions_count (few_functions asked.0)))
 
-  few-places : CanBeAsked s → length headerAndEntries ≤ 28 + 20 * 20
+  few-places : CanBeAsked s → length header_and_entries ≤ 28 + 20 * 20
   few-places asked =
       rw (
-        length-append (span_of 0 28) (entryPlaces (layout_of s).table (entriesCompared d (functionsOf s))),
-        listed-length (λ p. p) 28 0,
-        entries-long (layout_of s).table (entriesCompared d (functionsOf s)),
+        length-append (span_of 0 28) (entry_places (layout_of s).table (entries_compared d (functions_of s))),
+        listed_length (λ p. p) 28 0,
+        entries_long (layout_of s).table (entries_compared d (functions_of s)),
       )
       (omega (arith, at-most-twenty asked))
 
   when-asked : CanBeAsked s → AtMostBesideRows s d (28 + 20 * 20)
-  when-asked asked = record { places = headerAndEntries; few = few-places asked; all = all }
+  when-asked asked = record { places = header_and_entries; few = few-places asked; all = all }
     where
-      all : (p : ℕ) → ReadAt s d p → Memᴰ p headerAndEntries ⊎ InLandedRows s d p
+      all : (p : ℕ) → ReadAt s d p → Memᴰ p header_and_entries ⊎ InLandedRows s d p
       all p (of-header span lt) = inl (Memᴰ.append_left _ (in_span 28 0 p span))
-      all p (of_entry asked i member span) = inl (Memᴰ.append_right (span_of 0 28) (in-entries (layout_of s).table _ i p member span))
+      all p (of_entry asked i member span) = inl (Memᴰ.append_right (span_of 0 28) (in_entries (layout_of s).table _ i p member span))
       all p (of_row i k lands reached span lt) = inr (i, k, lands, reached, span)
 
   -- where nothing is compared, the header alone
   when-not : ¬ CanBeAsked s → AtMostBesideRows s d (28 + 20 * 20)
-  when-not not-asked = record { places = span_of 0 28; few = rw (listed-length (λ p. p) 28 0) (omega arith); all = all }
+  when-not not-asked = record { places = span_of 0 28; few = rw (listed_length (λ p. p) 28 0) (omega arith); all = all }
     where
       all : (p : ℕ) → ReadAt s d p → Memᴰ p (span_of 0 28) ⊎ InLandedRows s d p
       all p (of-header span lt) = inl (in_span 28 0 p span)
@@ -126,12 +126,12 @@ module _ (s : List ℕ) (d : ℤ) where
       all p (of_row i k lands reached span lt) = absurd (not-asked lands.asked)
 
   -- at most 28 + 20 * 20 bytes and one function's rows
-  pub at-most-428 : AtMostBesideRows s d (28 + 20 * 20)
-  at-most-428 = by (headerFault s) refl
+  pub at_most_428 : AtMostBesideRows s d (28 + 20 * 20)
+  at_most_428 = by (header_fault s) refl
     where
-      by : (fault : Fault) → headerFault s ≡ fault → AtMostBesideRows s d (28 + 20 * 20)
+      by : (fault : Fault) → header_fault s ≡ fault → AtMostBesideRows s d (28 + 20 * 20)
       by Sound is =
           by_value (layout_of s).sorted
-          (λ set. when-asked ((header-exactly-when s).0 is, set))
+          (λ set. when-asked ((header_exactly_when s).0 is, set))
           (λ unset. when-not (λ asked. true≢false (sym asked.1 ∙ unset)))
-      by (Breaks number) is = when-not (λ asked. breaks-not-obeys s number is asked.0)
+      by (Breaks number) is = when-not (λ asked. breaks_not_obeys s number is asked.0)

@@ -8,16 +8,16 @@ use native.Mathlib.Omega.{arith}
 use lib.Dec.{leb}
 use borrow.Author.Tests.{leb-true, leb-false}
 use Rattle.numbers.specs.declared.field.Order.{Order}
-use Rattle.section.specs.Row.{rowPlace}
+use Rattle.section.specs.Row.{row_place}
 use Rattle.section.specs.declared.shape.Shape.{Shape}
-use Rattle.accept.specs.computed.Checks.{rowsFault}
+use Rattle.accept.specs.Computed.Checks.{rows_fault}
 use Rattle.accept.specs.declared.verdict.Fault.TheVariants.{Sound, Breaks}
 use Rattle.lookup.specs.Scanned.{start_in}
 use Rattle.lookup.specs.declared.rows.Stop.{Stop}
-use Rattle.lookup.specs.inner.Search.{stopOf}
+use Rattle.lookup.specs.Inner.Search.{stop_of}
 use Rattle.lookup.proofs.CoveringLaws.{by_value}
-use Rattle.lookup.proofs.LastRowLaws.{halts-alone}
-use Rattle.ask.specs.inner.Parts.{stopAfter, walkBy, walk_of}
+use Rattle.lookup.proofs.LastRowLaws.{halts_alone}
+use Rattle.ask.specs.Inner.Parts.{stop_after, walk_by, walk_of}
 use Rattle.ask.specs.declared.rows.Walk.TheVariants.{Faulty, Whole}
 
 -- of the first k rows, those before `rows` start at or below o and the others above it; the next one may start at `low`
@@ -27,12 +27,12 @@ pub record StopSoFar (area : List ℕ) (order : Order) (code first o low k : ℕ
   pub above : (j : ℕ) → stop.rows ≤ j → j < k → o < start_in area order code first j
   -- where one was above, none may come at or below
   pub settled : stop.rows < k → o < low
-  pub place_is : stop.place ≡ rowPlace area code first (stop.rows - 1)
+  pub place_is : stop.place ≡ row_place area code first (stop.rows - 1)
 
 module _ (area : List ℕ) (order : Order) (code first o : ℕ) where
-  pub stop-begins : StopSoFar area order code first o 0 0 (record { rows = 0; place = first })
-  unfolding rowPlace
-  stop-begins =
+  pub stop_begins : StopSoFar area order code first o 0 0 (record { rows = 0; place = first })
+  unfolding row_place
+  stop_begins =
       record {
         few = omega arith;
         below = λ j lt. absurd (omega arith);
@@ -47,7 +47,7 @@ module _ (area : List ℕ) (order : Order) (code first o : ℕ) where
     Next next = StopSoFar area order code first o (start + 1) (k + 1) next
 
     -- at or below: so were all before it
-    taken : start ≤ o → Next (record { rows = k + 1; place = rowPlace area code first k })
+    taken : start ≤ o → Next (record { rows = k + 1; place = row_place area code first k })
     taken le =
         let late : ¬ (stop.rows < k) = λ less. let above = sofar.settled less in omega arith in
         let all : stop.rows ≡ k = omega (arith, sofar.few, late) in
@@ -59,7 +59,7 @@ module _ (area : List ℕ) (order : Order) (code first o : ℕ) where
               (λ e. sofar.below j (omega (arith, leb-false k j e)));
           above = λ j from lt. absurd (omega arith);
           settled = λ lt. absurd (omega arith);
-          place_is = ap (rowPlace area code first) (omega arith);
+          place_is = ap (row_place area code first) (omega arith);
         }
 
     left : o < start → Next stop
@@ -75,28 +75,28 @@ module _ (area : List ℕ) (order : Order) (code first o : ℕ) where
           place_is = sofar.place_is;
         }
 
-    pub stop-goes-on : (at : ℕ) → at ≡ rowPlace area code first k → Next (stopAfter stop (k + 1) at start o)
-    unfolding stopAfter
-    stop-goes-on at place =
+    pub stop_goes_on : (at : ℕ) → at ≡ row_place area code first k → Next (stop_after stop (k + 1) at start o)
+    unfolding stop_after
+    stop_goes_on at place =
         by_value (leb start o)
-        (λ e. rw (e, stopAfter) (rw place (taken (leb-true start o e))))
-        (λ e. rw (e, stopAfter) (left (leb-false start o e)))
+        (λ e. rw (e, stop_after) (rw place (taken (leb-true start o e))))
+        (λ e. rw (e, stop_after) (left (leb-false start o e)))
 
-  pub stop-ends : (low count : ℕ) (stop : Stop) → StopSoFar area order code first o low count stop → stop ≡ stopOf area order code first count o
-  unfolding stopOf
-  stop-ends low count stop sofar i =
-      let rows_are = halts-alone (start_in area order code first) o count stop.rows
+  pub stop_ends : (low count : ℕ) (stop : Stop) → StopSoFar area order code first o low count stop → stop ≡ stop_of area order code first count o
+  unfolding stop_of
+  stop_ends low count stop sofar i =
+      let rows_are = halts_alone (start_in area order code first) o count stop.rows
       (record { from = omega arith; within = omega (arith, sofar.few); below = λ j le lt. sofar.below j lt; stop = λ lt. sofar.above stop.rows (omega arith) lt }) in
-      record { rows = sym rows_are i; place = (sofar.place_is ∙ ap (λ rows. rowPlace area code first (rows - 1)) (sym rows_are)) i }
+      record { rows = sym rows_are i; place = (sofar.place_is ∙ ap (λ rows. row_place area code first (rows - 1)) (sym rows_are)) i }
 
 -- ---- what the walk answers
 
 module _ (area : List ℕ) (shape : Shape) (code first count o : ℕ) where
-  pub walk-faulty : {number : ℕ} → Breaks number ≡ rowsFault area shape code first count → Faulty ≡ walk_of area shape code first count o
-  unfolding walk_of walkBy
-  walk-faulty is = rw (← is)
+  pub walk_faulty : {number : ℕ} → Breaks number ≡ rows_fault area shape code first count → Faulty ≡ walk_of area shape code first count o
+  unfolding walk_of walk_by
+  walk_faulty is = rw (← is)
 
-  pub walk-whole : {stop : Stop} → Sound ≡ rowsFault area shape code first count → stop ≡ stopOf area shape.order code first count o
+  pub walk_whole : {stop : Stop} → Sound ≡ rows_fault area shape code first count → stop ≡ stop_of area shape.order code first count o
       → Whole stop ≡ walk_of area shape code first count o
-  unfolding walk_of walkBy
-  walk-whole is stops = rw (← is, stops)
+  unfolding walk_of walk_by
+  walk_whole is stops = rw (← is, stops)

@@ -2,13 +2,13 @@
 -- address". `Covers`, `OffsetIs` and what is said of rows are those of a lookup.
 use Rattle.std.specs.Prelude.{◌≡◌, true, false, List, ℕ, suc, ◌<◌, ℤ}
 use Rattle.section.specs.Header.{layout_of}
-use Rattle.section.specs.Meaning.{functionsOf}
+use Rattle.section.specs.Meaning.{functions_of}
 use Rattle.section.specs.declared.row.Row.{Row}
-use Rattle.accept.specs.Given.{Rule, numberOfRule, HeaderBreaks}
-use Rattle.accept.specs.Rules.{rowCount, Rule9, Rule10, Rule11First, HeaderObeys, RowObeys}
-use Rattle.lookup.specs.Cases.{Covers, OffsetIs, LastAtMost, NoneAtMost, rowOfFunction}
+use Rattle.accept.specs.Given.{Rule, number_of_rule, HeaderBreaks}
+use Rattle.accept.specs.Rules.{row_count, Rule9, Rule10, Rule11First, HeaderObeys, RowObeys}
+use Rattle.lookup.specs.Cases.{Covers, OffsetIs, LastAtMost, NoneAtMost, row_of_function}
 use Rattle.lookup.specs.Halving.{landing}
-use Rattle.ask.specs.Numbers.{Unanswered, noFunction, no_row, damaged, unsorted, AskCause, unsound, unanswered}
+use Rattle.ask.specs.Numbers.{Unanswered, no_function, no_row, damaged, unsorted, AskCause, unsound, unanswered}
 use Rattle.ask.specs.declared.answer.AskAnswer.{AskAnswer}
 use Rattle.ask.specs.declared.answer.AskAnswer.TheVariants.{Found, Unsound, Unsorted, NoFunction, NoRow, Damaged}
 
@@ -26,7 +26,7 @@ NotSorted s = HeaderObeys s × ((layout_of s).sorted ≡ false)
 
 -- "the one function it lands on (entry low - 1, if low ended above 0)" is function i
 abbrev pub LandsOn : List ℕ → ℤ → ℕ → Type 0
-LandsOn s d i = (landing d (functionsOf s)).low ≡ suc i
+LandsOn s d i = (landing d (functions_of s)).low ≡ suc i
 
 -- function i is landed on in a section that can be asked, and covers
 pub record LandsIn (s : List ℕ) (d : ℤ) (i : ℕ) : Type 0 where
@@ -39,7 +39,7 @@ pub record OwnRulesHold (s : List ℕ) (i : ℕ) : Type 0 where
   pub rule9 : Rule9 s i
   pub rule10 : Rule10 s i
   pub first : Rule11First s i
-  pub rows : (k : ℕ) → k < rowCount s i → RowObeys s i k
+  pub rows : (k : ℕ) → k < row_count s i → RowObeys s i k
 
 -- ---- the answers that a function is landed on for, or none
 
@@ -48,16 +48,16 @@ pub record RowCase (s : List ℕ) (d : ℤ) (row : Row) (i k : ℕ) : Type 0 whe
   pub lands : LandsIn s d i
   pub sound : OwnRulesHold s i
   pub offset : ℕ
-  pub offset-is : OffsetIs s d i offset
+  pub offset_is : OffsetIs s d i offset
   pub last : LastAtMost s i offset k
-  pub row_is : row ≡ rowOfFunction s i k
+  pub row_is : row ≡ row_of_function s i k
 
 -- 23: it covers, obeys 9 to 13, and has no such row
 pub record NoRowCase (s : List ℕ) (d : ℤ) (i : ℕ) : Type 0 where
   pub lands : LandsIn s d i
   pub sound : OwnRulesHold s i
   pub offset : ℕ
-  pub offset-is : OffsetIs s d i offset
+  pub offset_is : OffsetIs s d i offset
   pub none : NoneAtMost s i offset
 
 -- 44: "the function landed on covers d and breaks 9 to 13"
@@ -73,22 +73,22 @@ pub record NoFunctionCase (s : List ℕ) (d : ℤ) : Type 0 where
 -- ---- every answer
 
 -- "the count"
-abbrev pub comparedIn : List ℕ → ℤ → ℕ
-comparedIn s d = (landing d (functionsOf s)).compared
+abbrev pub compared_in : List ℕ → ℤ → ℕ
+compared_in s d = (landing d (functions_of s)).compared
 
 -- what holds of s and d where this is the answer
 abbrev pub AskCase : List ℕ → ℤ → AskAnswer → Type 0
-AskCase s d (Found i compared k row) = RowCase s d row i k × (compared ≡ comparedIn s d)
-AskCase s d (Unsound number) = (rule : Rule) × (number ≡ numberOfRule rule) × HeaderBreaks s rule
+AskCase s d (Found i compared k row) = RowCase s d row i k × (compared ≡ compared_in s d)
+AskCase s d (Unsound number) = (rule : Rule) × (number ≡ number_of_rule rule) × HeaderBreaks s rule
 AskCase s d Unsorted = NotSorted s
-AskCase s d (NoFunction compared) = NoFunctionCase s d × (compared ≡ comparedIn s d)
-AskCase s d (NoRow i compared) = NoRowCase s d i × (compared ≡ comparedIn s d)
-AskCase s d (Damaged i compared) = DamagedCase s d i × (compared ≡ comparedIn s d)
+AskCase s d (NoFunction compared) = NoFunctionCase s d × (compared ≡ compared_in s d)
+AskCase s d (NoRow i compared) = NoRowCase s d i × (compared ≡ compared_in s d)
+AskCase s d (Damaged i compared) = DamagedCase s d i × (compared ≡ compared_in s d)
 
 -- ---- every number
 
 abbrev pub UnansweredCase : List ℕ → ℤ → Unanswered → Type 0
-UnansweredCase s d noFunction = NoFunctionCase s d
+UnansweredCase s d no_function = NoFunctionCase s d
 UnansweredCase s d no_row = (i : ℕ) × NoRowCase s d i
 UnansweredCase s d damaged = (i : ℕ) × DamagedCase s d i
 UnansweredCase s d unsorted = NotSorted s

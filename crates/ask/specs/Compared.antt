@@ -1,8 +1,8 @@
 -- Which entries the halving rule compares (SPECIFICATION 4.16): their indexes, in the order in which it compares them. There are as many as it
--- counts (`as-many-compared`).
+-- counts (`as_many_compared`).
 use Rattle.std.specs.Prelude.{ℕ, zero, suc, ◌+◌, ◌/◌, Bool, true, false, List, [], ◌∷◌, ltb, ℤ, length}
 use Rattle.section.specs.Meaning.{Function}
-use Rattle.lookup.specs.Halving.{startsAtMost}
+use Rattle.lookup.specs.Halving.{starts_at_most}
 
 -- turn by turn as `halve` goes: "while low < high, compare entry (low + high) / 2 rounded down; start at most d moves low to one past it,
 -- otherwise high to it"
@@ -18,5 +18,5 @@ middles at_most (suc turns) low high =
     ]
 
 -- "over low = 0, high = n"
-unfoldable pub entriesCompared : ℤ → List Function → List ℕ
-entriesCompared d functions = middles (startsAtMost d functions) (length functions) 0 (length functions)
+unfoldable pub entries_compared : ℤ → List Function → List ℕ
+entries_compared d functions = middles (starts_at_most d functions) (length functions) 0 (length functions)

@@ -2,5 +2,5 @@ pub mod Cases
 pub mod Compared
 pub mod Numbers
 pub mod ReadBy
-pub mod computed
-pub mod inner
+pub mod Computed
+pub mod Inner

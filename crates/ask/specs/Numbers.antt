@@ -2,9 +2,9 @@
 -- number and what it carries.
 use Rattle.std.specs.Prelude.{ℕ, ◌≡◌, List, [], ◌∷◌}
 use Rattle.section.specs.declared.row.Row.{Row}
-use Rattle.accept.specs.Given.{Rule, numberOfRule}
+use Rattle.accept.specs.Given.{Rule, number_of_rule}
 use Rattle.lookup.specs.Numbers as lookup
-use Rattle.lookup.specs.Numbers.{numberOfUnfound, outcomeNumber, outcomeIndexes, outcomeRow}
+use Rattle.lookup.specs.Numbers.{number_of_unfound, outcome_number, outcome_indexes, outcome_row}
 use Rattle.lookup.specs.declared.answer.Answer.{Answer}
 use Rattle.ask.specs.declared.answer.AskAnswer.{AskAnswer}
 use Rattle.ask.specs.declared.answer.AskAnswer.TheVariants.{Found, Unsound, Unsorted, NoFunction, NoRow, Damaged}
@@ -13,67 +13,67 @@ use Rattle.ask.specs.declared.answer.AskAnswer.TheVariants.{Found, Unsound, Unso
 
 -- "21, 23 or the row", "44", "45"
 pub data Unanswered : Type 0 where
-  noFunction : Unanswered
+  no_function : Unanswered
   no_row : Unanswered
   damaged : Unanswered
   unsorted : Unanswered
 
-unfoldable pub numberOfUnanswered : Unanswered → ℕ
-numberOfUnanswered noFunction = numberOfUnfound lookup.noFunction
-numberOfUnanswered no_row = numberOfUnfound lookup.no_row
-numberOfUnanswered damaged = 44
-numberOfUnanswered unsorted = 45
+unfoldable pub number_of_unanswered : Unanswered → ℕ
+number_of_unanswered no_function = number_of_unfound lookup.no_function
+number_of_unanswered no_row = number_of_unfound lookup.no_row
+number_of_unanswered damaged = 44
+number_of_unanswered unsorted = 45
 
 -- "Header faults answer 1 to 8": a rule of the header, and no other
 pub data AskCause : Type 0 where
   unsound : Rule → AskCause
   unanswered : Unanswered → AskCause
 
-unfoldable pub numberOfAskCause : AskCause → ℕ
-numberOfAskCause (unsound rule) = numberOfRule rule
-numberOfAskCause (unanswered why) = numberOfUnanswered why
+unfoldable pub number_of_ask_cause : AskCause → ℕ
+number_of_ask_cause (unsound rule) = number_of_rule rule
+number_of_ask_cause (unanswered why) = number_of_unanswered why
 
 -- ---- answers
 
 -- 0 where a row was found, else the number of the cause
-unfoldable pub askNumber : AskAnswer → ℕ
-askNumber (Found function compared number row) = 0
-askNumber (Unsound number) = number
-askNumber Unsorted = numberOfUnanswered unsorted
-askNumber (NoFunction compared) = numberOfUnanswered noFunction
-askNumber (NoRow function compared) = numberOfUnanswered no_row
-askNumber (Damaged function compared) = numberOfUnanswered damaged
+unfoldable pub ask_number : AskAnswer → ℕ
+ask_number (Found function compared number row) = 0
+ask_number (Unsound number) = number
+ask_number Unsorted = number_of_unanswered unsorted
+ask_number (NoFunction compared) = number_of_unanswered no_function
+ask_number (NoRow function compared) = number_of_unanswered no_row
+ask_number (Damaged function compared) = number_of_unanswered damaged
 
 -- the index of the function landed on, where it covers
-unfoldable pub askIndexes : AskAnswer → List ℕ
-askIndexes (Found function compared number row) = function ∷ []
-askIndexes (Unsound number) = []
-askIndexes Unsorted = []
-askIndexes (NoFunction compared) = []
-askIndexes (NoRow function compared) = function ∷ []
-askIndexes (Damaged function compared) = function ∷ []
+unfoldable pub ask_indexes : AskAnswer → List ℕ
+ask_indexes (Found function compared number row) = function ∷ []
+ask_indexes (Unsound number) = []
+ask_indexes Unsorted = []
+ask_indexes (NoFunction compared) = []
+ask_indexes (NoRow function compared) = function ∷ []
+ask_indexes (Damaged function compared) = function ∷ []
 
 -- the row and its number in the function, where one was found
-unfoldable pub askRow : AskAnswer → List (ℕ × Row)
-askRow (Found function compared number row) = (number, row) ∷ []
-askRow (Unsound number) = []
-askRow Unsorted = []
-askRow (NoFunction compared) = []
-askRow (NoRow function compared) = []
-askRow (Damaged function compared) = []
+unfoldable pub ask_row : AskAnswer → List (ℕ × Row)
+ask_row (Found function compared number row) = (number, row) ∷ []
+ask_row (Unsound number) = []
+ask_row Unsorted = []
+ask_row (NoFunction compared) = []
+ask_row (NoRow function compared) = []
+ask_row (Damaged function compared) = []
 
 -- the number of entries compared: "all with count 0" where nothing was
-unfoldable pub askCompared : AskAnswer → ℕ
-askCompared (Found function compared number row) = compared
-askCompared (Unsound number) = 0
-askCompared Unsorted = 0
-askCompared (NoFunction compared) = compared
-askCompared (NoRow function compared) = compared
-askCompared (Damaged function compared) = compared
+unfoldable pub ask_compared : AskAnswer → ℕ
+ask_compared (Found function compared number row) = compared
+ask_compared (Unsound number) = 0
+ask_compared Unsorted = 0
+ask_compared (NoFunction compared) = compared
+ask_compared (NoRow function compared) = compared
+ask_compared (Damaged function compared) = compared
 
 -- "its row, refusal and count equal the full answer": the same number, index, row and count as a lookup's
 pub record SameAnswer (asked : AskAnswer) (looked : Answer) : Type 0 where
-  pub number : askNumber asked ≡ outcomeNumber looked.outcome
-  pub indexes : askIndexes asked ≡ outcomeIndexes looked.outcome
-  pub row : askRow asked ≡ outcomeRow looked.outcome
-  pub compared : askCompared asked ≡ looked.compared
+  pub number : ask_number asked ≡ outcome_number looked.outcome
+  pub indexes : ask_indexes asked ≡ outcome_indexes looked.outcome
+  pub row : ask_row asked ≡ outcome_row looked.outcome
+  pub compared : ask_compared asked ≡ looked.compared

@@ -1,9 +1,9 @@
 // The lookup that reads the header, the entries that the halving rule compares, and the rows of the one function that it lands on.
 ghost use Rattle.std.specs.Prelude.{◌≡◌, ◌≤◌, ◌<◌};
 ghost use Rattle.numbers.specs.Start.{distance};
-ghost use Rattle.lookup.specs.inner.Requires.{HeaderOf};
-ghost use Rattle.ask.specs.computed.Ask.{whereLanded, askIn, askOf};
-ghost use Rattle.ask.specs.inner.Parts.{withSought, pastFunction};
+ghost use Rattle.lookup.specs.Inner.Requires.{HeaderOf};
+ghost use Rattle.ask.specs.Computed.Ask.{where_landed, ask_in, ask_of};
+ghost use Rattle.ask.specs.Inner.Parts.{with_sought, past_function};
 
 use crate::answer::AskAnswer;
 use crate::rows::{Sought, seek_row};
@@ -15,7 +15,7 @@ use section::header::{Layout, layout_at, order_at};
 use section::shape::shape_of;
 
 fn with_sought(function: u64, compared: u64, sought: Sought) -> AskAnswer
-    ensures { result ≡ withSought function compared sought }
+    ensures { result ≡ with_sought function compared sought }
 {
     match sought {
         Sought::Broken => AskAnswer::Damaged {
@@ -38,7 +38,7 @@ fn with_sought(function: u64, compared: u64, sought: Sought) -> AskAnswer
 // Function i was landed on, and the PC is so far past its start.
 fn in_function(section: &[u8], layout: Layout, i: u64, past: u64, compared: u64) -> AskAnswer
     requires { HeaderOf section.now layout × (i < layout.functions) }
-    ensures { result ≡ pastFunction section.now i past compared }
+    ensures { result ≡ past_function section.now i past compared }
 {
     let entry = entry_in(section, layout, order_at(section), i);
     let abi = layout.abi;
@@ -59,7 +59,7 @@ fn where_landed(
     pc: u64,
 ) -> AskAnswer
     requires { HeaderOf section.now layout × (landing.low ≤ layout.functions) }
-    ensures { result ≡ whereLanded section.now (distance address pc) landing.compared landing.low }
+    ensures { result ≡ where_landed section.now (distance address pc) landing.compared landing.low }
 {
     let compared = landing.compared;
     let low = landing.low;
@@ -75,7 +75,7 @@ fn where_landed(
 // The answer on a section whose header is sound.
 fn ask_in(section: &[u8], layout: Layout, address: u64, pc: u64) -> AskAnswer
     requires { HeaderOf section.now layout }
-    ensures { result ≡ askIn section.now (distance address pc) }
+    ensures { result ≡ ask_in section.now (distance address pc) }
 {
     if layout.sorted {
         return where_landed(
@@ -91,7 +91,7 @@ fn ask_in(section: &[u8], layout: Layout, address: u64, pc: u64) -> AskAnswer
 
 // The answer on any bytes: the header's checks first, and no other of the section.
 pub fn ask(section: &[u8], address: u64, pc: u64) -> AskAnswer
-    ensures { result ≡ askOf section.now address pc }
+    ensures { result ≡ ask_of section.now address pc }
 {
     match check_header(section) {
         Fault::Breaks(number) => AskAnswer::Unsound(number),

@@ -1,8 +1,8 @@
 // The rows of one function, checked and looked through in one walk. The checks are those of `accept`, and the row is the one that `lookup`
 // finds. Neither's own loop is called: a second caller would keep it from being compiled into a check, or into the lookup of a frame.
 ghost use Rattle.std.specs.Prelude.{◌≡◌, ◌≤◌, ◌<◌, length};
-ghost use Rattle.section.specs.inner.Reading.{Readable};
-ghost use Rattle.ask.specs.inner.Parts.{entryWrong, stopAfter, walk_of, soughtAt, soughtIn};
+ghost use Rattle.section.specs.Inner.Reading.{Readable};
+ghost use Rattle.ask.specs.Inner.Parts.{entry_wrong, stop_after, walk_of, sought_at, sought_in};
 
 use accept::entry_check::{wrong_entry_info, wrong_repeat};
 use accept::row_check::check_row;
@@ -31,7 +31,7 @@ enum Walk {
 
 // Whether an entry breaks a rule before its rows are tried.
 fn is_wrong(area: &[u8], entry: Entry) -> bool
-    ensures { result ≡ entryWrong area.now entry }
+    ensures { result ≡ entry_wrong area.now entry }
 {
     if wrong_entry_info(entry.info) {
         return true;
@@ -47,7 +47,7 @@ fn is_wrong(area: &[u8], entry: Entry) -> bool
 
 // The stop after one more row, the last of so many, which stands at `at`.
 fn stop_after(stop: Stop, rows: u32, at: usize, start: u64, o: u64) -> Stop
-    ensures { result ≡ stopAfter stop rows at start o }
+    ensures { result ≡ stop_after stop rows at start o }
 {
     if start <= o {
         return Stop {
@@ -105,7 +105,7 @@ fn walk_typed(area: &[u8], shape: Shape, code: usize, first: usize, count: u32, 
 // The row at which the rows at or below end.
 fn sought_at(area: &[u8], shape: Shape, code: usize, stop: Stop) -> Sought
     requires { 0 < stop.rows → Readable area.now code stop.place }
-    ensures { result ≡ soughtAt area.now shape code stop }
+    ensures { result ≡ sought_at area.now shape code stop }
 {
     if stop.rows == 0 {
         return Sought::Missed;
@@ -118,7 +118,7 @@ fn sought_at(area: &[u8], shape: Shape, code: usize, stop: Stop) -> Sought
 
 // The row of an entry for a PC that is `past` the function's start.
 pub fn seek_row(area: &[u8], shape: Shape, entry: Entry, past: u64) -> Sought
-    ensures { result ≡ soughtIn area.now shape entry past }
+    ensures { result ≡ sought_in area.now shape entry past }
 {
     if is_wrong(area, entry) {
         return Sought::Broken;

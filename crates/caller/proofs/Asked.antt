@@ -11,92 +11,92 @@ use Rattle.section.specs.declared.row.Base.TheVariants.{Fp, Sp}
 use Rattle.section.specs.declared.shape.Shape.{Shape}
 use Rattle.lookup.specs.Finding.{Finding}
 use Rattle.caller.specs.Cases.{Asks, AsksNothing, CfaIs, RowFound, CallerCase}
-use Rattle.caller.specs.Frame.{justBefore, asked_of, baseValue, cfaOf}
-use Rattle.caller.specs.computed.Caller.{step_of, stepIn}
+use Rattle.caller.specs.Frame.{just_before, asked_of, base_value, cfa_of}
+use Rattle.caller.specs.Computed.Caller.{step_of, step_in}
 use Rattle.caller.specs.declared.registers.Asked.TheVariants.{At, Nowhere}
 use Rattle.caller.specs.declared.registers.Registers.{Registers}
 use Rattle.caller.specs.declared.registers.Step.TheVariants.{Caller, Refused}
 use Rattle.caller.specs.declared.registers.Process.{Process}
-use Rattle.caller.proofs.LookedUpLaws.{nowhere-refused}
-use Rattle.caller.proofs.RegisterLaws.{asked-unmarked, asked-marked}
-use Rattle.caller.proofs.StepLaws.{by-shown, step-exactly-when}
-use Rattle.caller.proofs.TestLaws.{mark-shows}
+use Rattle.caller.proofs.LookedUpLaws.{nowhere_refused}
+use Rattle.caller.proofs.RegisterLaws.{asked_unmarked, asked_marked}
+use Rattle.caller.proofs.StepLaws.{by_shown, step_exactly_when}
+use Rattle.caller.proofs.TestLaws.{mark_shows}
 
 -- ---- one before a PC
 
-before_at : (from pc : ℕ) → (justBefore from ≡ At pc) ↔ (pc + 1 ≡ from)
-unfolding justBefore
+before_at : (from pc : ℕ) → (just_before from ≡ At pc) ↔ (pc + 1 ≡ from)
+unfolding just_before
 before_at zero pc = (λ e. absurd (let z : ◌≡◌ {A = ℕ} 0 1 = cc in omega arith), λ e. absurd (omega arith))
 before_at (suc from) pc = (λ e. let same : from ≡ pc = cc in omega arith, λ e. ap At (omega arith))
 
-before-nowhere : (from : ℕ) → (justBefore from ≡ Nowhere) ↔ (from ≡ 0)
-unfolding justBefore
-before-nowhere zero = (λ e. refl, λ e. refl)
-before-nowhere (suc from) = (λ e. absurd (let z : ◌≡◌ {A = ℕ} 0 1 = cc in omega arith), λ e. absurd (omega arith))
+before_nowhere : (from : ℕ) → (just_before from ≡ Nowhere) ↔ (from ≡ 0)
+unfolding just_before
+before_nowhere zero = (λ e. refl, λ e. refl)
+before_nowhere (suc from) = (λ e. absurd (let z : ◌≡◌ {A = ℕ} 0 1 = cc in omega arith), λ e. absurd (omega arith))
 
 module _ (registers : Registers) where
   -- "without the first-frame mark, look up PC minus 1; with it, PC itself."
-  pub asked-exactly-when : (pc : ℕ) → (asked_of registers ≡ At pc) ↔ Asks registers pc
-  asked-exactly-when pc = (
+  pub asked_exactly_when : (pc : ℕ) → (asked_of registers ≡ At pc) ↔ Asks registers pc
+  asked_exactly_when pc = (
     λ e.
-        by-shown (mark-shows registers) (λ none. inr (none, (before_at registers.pc pc).0 (asked-unmarked registers none ∙ e))) λ set.
-        let same : At registers.pc ≡ At pc = asked-marked registers set ∙ e in
+        by_shown (mark_shows registers) (λ none. inr (none, (before_at registers.pc pc).0 (asked_unmarked registers none ∙ e))) λ set.
+        let same : At registers.pc ≡ At pc = asked_marked registers set ∙ e in
         inl (set, cc),
     ⊎_elim
-        (λ h. sym (asked-marked registers h.0) ∙ ap At (sym h.1))
-        (λ h. sym (asked-unmarked registers h.0) ∙ (before_at registers.pc pc).1 h.1),
+        (λ h. sym (asked_marked registers h.0) ∙ ap At (sym h.1))
+        (λ h. sym (asked_unmarked registers h.0) ∙ (before_at registers.pc pc).1 h.1),
   )
 
   -- "PC 0 without the mark"
-  pub nowhere-exactly-when : (asked_of registers ≡ Nowhere) ↔ AsksNothing registers
-  nowhere-exactly-when = (
+  pub nowhere_exactly_when : (asked_of registers ≡ Nowhere) ↔ AsksNothing registers
+  nowhere_exactly_when = (
     λ e.
-        by-shown (mark-shows registers) (λ none. (none, (before-nowhere registers.pc).0 (asked-unmarked registers none ∙ e))) λ set.
-        let same : At registers.pc ≡ Nowhere = asked-marked registers set ∙ e in
+        by_shown (mark_shows registers) (λ none. (none, (before_nowhere registers.pc).0 (asked_unmarked registers none ∙ e))) λ set.
+        let same : At registers.pc ≡ Nowhere = asked_marked registers set ∙ e in
         absurd (let z : ◌≡◌ {A = ℕ} 0 1 = cc in omega arith),
-    λ h. sym (asked-unmarked registers h.0) ∙ (before-nowhere registers.pc).1 h.1,
+    λ h. sym (asked_unmarked registers h.0) ∙ (before_nowhere registers.pc).1 h.1,
   )
 
   -- "is answered 21, .. with no lookup made": by whatever a lookup would find
-  pub no-lookup : AsksNothing registers → (shape : Shape) (look : ℕ → Finding) (stack : List ℕ) (process : Process)
+  pub no_lookup : AsksNothing registers → (shape : Shape) (look : ℕ → Finding) (stack : List ℕ) (process : Process)
       → step_of shape look stack process registers ≡ Refused registers 21
-  no-lookup nothing = nowhere-refused registers (nowhere-exactly-when.1 nothing)
+  no_lookup nothing = nowhere_refused registers (nowhere_exactly_when.1 nothing)
 
 -- ---- "The RA written stays as read."
 
 -- these registers at another PC
-abbrev pub atPc : Registers → ℕ → Registers
-atPc registers pc = record { pc = pc; sp = registers.sp; fp = registers.fp; lr = registers.lr; first = registers.first }
+abbrev pub at_pc : Registers → ℕ → Registers
+at_pc registers pc = record { pc = pc; sp = registers.sp; fp = registers.fp; lr = registers.lr; first = registers.first }
 
-base_kept : (registers : Registers) (pc : ℕ) (base : Base) → baseValue registers base ≡ baseValue (atPc registers pc) base
-unfolding baseValue
+base_kept : (registers : Registers) (pc : ℕ) (base : Base) → base_value registers base ≡ base_value (at_pc registers pc) base
+unfolding base_value
 base_kept registers pc Fp = refl
 base_kept registers pc Sp = refl
 
 -- the caller is by the row alone: registers at another PC for which this row is found have the same caller, its PC included
-pub whatever-asked : (s stack : List ℕ) (process : Process) (registers caller : Registers) (h : CallerCase s stack process registers caller) (pc : ℕ)
-    → RowFound s stack process (atPc registers pc) h.row
-    → stepIn s stack process (atPc registers pc) ≡ Caller caller
-unfolding cfaOf
-whatever-asked s stack process registers caller h pc found =
-    (step-exactly-when s stack process (atPc registers pc) (Caller caller)).1
+pub whatever_asked : (s stack : List ℕ) (process : Process) (registers caller : Registers) (h : CallerCase s stack process registers caller) (pc : ℕ)
+    → RowFound s stack process (at_pc registers pc) h.row
+    → step_in s stack process (at_pc registers pc) ≡ Caller caller
+unfolding cfa_of
+whatever_asked s stack process registers caller h pc found =
+    (step_exactly_when s stack process (at_pc registers pc) (Caller caller)).1
     record {
       row = h.row;
       cfa = h.cfa;
-      words-at =
+      words_at =
           record {
-            cfa-at = record { row-found = found; not-24 = h.words-at.cfa-at.not-24; cfa-is = cfa-kept h.words-at.cfa-at.cfa-is };
-            not-26 = h.words-at.not-26;
-            not-27 = h.words-at.not-27;
+            cfa_at = record { row_found = found; not_24 = h.words-at.cfa-at.not-24; cfa_is = cfa-kept h.words-at.cfa-at.cfa-is };
+            not_26 = h.words-at.not-26;
+            not_27 = h.words-at.not-27;
           };
       ra = h.ra;
-      ra-is = h.ra-is;
-      pc-is = h.pc-is;
-      sp-is = h.sp-is;
-      fp-is = h.fp-is;
-      lr-is = h.lr-is;
-      first-is = h.first-is;
+      ra_is = h.ra-is;
+      pc_is = h.pc-is;
+      sp_is = h.sp-is;
+      fp_is = h.fp-is;
+      lr_is = h.lr-is;
+      first_is = h.first_is;
     }
   where
-    cfa-kept : CfaIs registers h.row h.cfa → CfaIs (atPc registers pc) h.row h.cfa
+    cfa-kept : CfaIs registers h.row h.cfa → CfaIs (at_pc registers pc) h.row h.cfa
     cfa-kept is = rw (base_kept registers pc h.row.base) at is

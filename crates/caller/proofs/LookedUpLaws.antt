@@ -8,12 +8,12 @@ use Rattle.section.specs.Meaning.{shape_of}
 use Rattle.section.specs.Shape.{shape}
 use Rattle.section.specs.declared.header.Layout.{Layout}
 use Rattle.section.specs.declared.shape.Shape.{Shape}
-use Rattle.lookup.specs.Finding.{Finding, findingOf}
-use Rattle.lookup.specs.computed.Answers.{answer_of, lookIn}
-use Rattle.lookup.specs.inner.Requires.{AcceptedOf}
+use Rattle.lookup.specs.Finding.{Finding, finding_of}
+use Rattle.lookup.specs.Computed.Answers.{answer_of, look_in_lem}
+use Rattle.lookup.specs.Inner.Requires.{AcceptedOf}
 use Rattle.lookup.specs.declared.answer.Answer.{Answer}
 use Rattle.caller.specs.Frame.{asked_of}
-use Rattle.caller.specs.computed.Caller.{lookAt, withFinding, fromFinding, step_of}
+use Rattle.caller.specs.Computed.Caller.{look_at, with_finding, from_finding, step_of}
 use Rattle.caller.specs.declared.registers.Asked.{Asked}
 use Rattle.caller.specs.declared.registers.Asked.TheVariants.{At, Nowhere}
 use Rattle.caller.specs.declared.registers.Registers.{Registers}
@@ -22,21 +22,21 @@ use Rattle.caller.specs.declared.registers.Step.TheVariants.{Refused}
 use Rattle.caller.specs.declared.registers.Process.{Process}
 
 -- where there is no PC to look up, whatever a lookup would find
-pub nowhere-refused : (registers : Registers) → asked_of registers ≡ Nowhere → (shape : Shape) (look : ℕ → Finding) (stack : List ℕ) (process : Process)
+pub nowhere_refused : (registers : Registers) → asked_of registers ≡ Nowhere → (shape : Shape) (look : ℕ → Finding) (stack : List ℕ) (process : Process)
     → step_of shape look stack process registers ≡ Refused registers 21
-unfolding lookAt fromFinding withFinding step_of
-nowhere-refused registers nowhere shape look stack process = rw nowhere
+unfolding look_at from_finding with_finding step_of
+nowhere_refused registers nowhere shape look stack process = rw nowhere
 
 module _ (s stack : List ℕ) (process : Process) (registers : Registers) where
-  pub nowhere-step : {asked : Asked} → asked ≡ asked_of registers → asked ≡ Nowhere
-      → Refused registers 21 ≡ step_of (shape_of s) (lookIn s process.section) stack process registers
-  nowhere-step is nowhere = sym (nowhere-refused registers (sym is ∙ nowhere) _ _ stack process)
+  pub nowhere_step : {asked : Asked} → asked ≡ asked_of registers → asked ≡ Nowhere
+      → Refused registers 21 ≡ step_of (shape_of s) (look_in_lem s process.section) stack process registers
+  nowhere_step is nowhere = sym (nowhere_refused registers (sym is ∙ nowhere) _ _ stack process)
 
-  pub looked-up-step : {layout : Layout} {asked : Asked} {pc : ℕ} {answer : Answer} {here : Shape} {step : Step}
+  pub looked_up_step : {layout : Layout} {asked : Asked} {pc : ℕ} {answer : Answer} {here : Shape} {step : Step}
       → AcceptedOf s layout → asked ≡ asked_of registers → asked ≡ At pc → answer ≡ answer_of s process.section pc → here ≡ shape layout.abi
-      → step ≡ fromFinding here stack process registers (findingOf answer.outcome)
-      → step ≡ step_of (shape_of s) (lookIn s process.section) stack process registers
-  unfolding lookAt step_of lookIn shape_of
-  looked-up-step accepted is at looked shaped e =
+      → step ≡ from_finding here stack process registers (finding_of answer.outcome)
+      → step ≡ step_of (shape_of s) (look_in_lem s process.section) stack process registers
+  unfolding look_at step_of look_in_lem shape_of
+  looked_up_step accepted is at looked shaped e =
       rw (sym is ∙ at)
       (rw (looked, shaped, accepted.layout_is) at e)

@@ -7,18 +7,18 @@ use mathlib.Core.Bool.{Bool, true, false, not, ◌&&◌, ◌||◌}
 use mathlib.Core.Path.{◌≡◌, refl, ◌∙◌, ap}
 use Prim.Native.Nat.{ℕ, zero, suc, ◌-◌, ◌<◌, ◌≤◌}
 use lib.Dec.{eqb, ltb, leb}
-use Rattle.numbers.specs.computed.Address.{in_memory, address_of}
+use Rattle.numbers.specs.Computed.Address.{in_memory, address_of}
 use Rattle.numbers.specs.declared.address.Address.{Address}
 use Rattle.section.specs.declared.row.Row.{Row}
 use Rattle.lookup.proofs.CoveringLaws.{by_value}
-use Rattle.caller.specs.Frame.{hasMark, justBefore, asked_of, baseValue, cfaOf}
-use Rattle.caller.specs.computed.Caller.{isLow}
+use Rattle.caller.specs.Frame.{has_mark, just_before, asked_of, base_value, cfa_of}
+use Rattle.caller.specs.Computed.Caller.{is_low}
 use Rattle.caller.specs.declared.registers.Asked.TheVariants.{At, Nowhere}
 use Rattle.caller.specs.declared.registers.Registers.{Registers}
 
-pub twice-not : (test : Bool) → test ≡ not (not test)
-twice-not true = refl
-twice-not false = refl
+pub twice_not : (test : Bool) → test ≡ not (not test)
+twice_not true = refl
+twice_not false = refl
 
 at_most : (a b : ℕ) → leb a b ≡ (ltb a b || eqb a b)
 at_most a b =
@@ -32,48 +32,48 @@ at_most a b =
     above : b ≤ a → ¬ (a ≡ b) → b < a
     above h other = omega arith
 
-or-none : (a b : Bool) → a ≡ (a || (b && false))
-or-none true b = refl
-or-none false true = refl
-or-none false false = refl
+or_none : (a b : Bool) → a ≡ (a || (b && false))
+or_none true b = refl
+or_none false true = refl
+or_none false false = refl
 
-or-both : (a b : Bool) → (a || b) ≡ (a || (b && true))
-or-both true b = refl
-or-both false true = refl
-or-both false false = refl
+or_both : (a b : Bool) → (a || b) ≡ (a || (b && true))
+or_both true b = refl
+or_both false true = refl
+or_both false false = refl
 
 module _ (registers : Registers) (sp : ℕ) where
-  pub low-unmarked : registers.first ≡ 0 → leb sp registers.sp ≡ isLow registers sp
-  unfolding isLow hasMark
-  low-unmarked none = rw (eq-eqb _ _ none) (at_most sp registers.sp ∙ or-both (ltb sp registers.sp) (eqb sp registers.sp))
+  pub low_unmarked : registers.first ≡ 0 → leb sp registers.sp ≡ is_low registers sp
+  unfolding is_low has_mark
+  low_unmarked none = rw (eq-eqb _ _ none) (at_most sp registers.sp ∙ or_both (ltb sp registers.sp) (eqb sp registers.sp))
 
-  pub low-marked : ¬ (registers.first ≡ 0) → ltb sp registers.sp ≡ isLow registers sp
-  unfolding isLow hasMark
-  low-marked set = rw (ne_eqb _ _ set) (or-none (ltb sp registers.sp) (eqb sp registers.sp))
+  pub low_marked : ¬ (registers.first ≡ 0) → ltb sp registers.sp ≡ is_low registers sp
+  unfolding is_low has_mark
+  low_marked set = rw (ne_eqb _ _ set) (or_none (ltb sp registers.sp) (eqb sp registers.sp))
 
 -- ---- the PC asked
 
-pub none_before : (pc : ℕ) → pc ≡ 0 → Nowhere ≡ justBefore pc
-unfolding justBefore
+pub none_before : (pc : ℕ) → pc ≡ 0 → Nowhere ≡ just_before pc
+unfolding just_before
 none_before zero e = refl
 none_before (suc pc) e = absurd (omega arith)
 
-pub one-before : (pc : ℕ) → ¬ (pc ≡ 0) → At (pc - 1) ≡ justBefore pc
-unfolding justBefore
-one-before zero e = absurd (e refl)
-one-before (suc pc) e = ap At (omega arith)
+pub one_before : (pc : ℕ) → ¬ (pc ≡ 0) → At (pc - 1) ≡ just_before pc
+unfolding just_before
+one_before zero e = absurd (e refl)
+one_before (suc pc) e = ap At (omega arith)
 
 module _ (registers : Registers) where
-  pub asked-unmarked : registers.first ≡ 0 → justBefore registers.pc ≡ asked_of registers
-  unfolding asked_of hasMark
-  asked-unmarked none = rw (eq-eqb _ _ none, asked_of)
+  pub asked_unmarked : registers.first ≡ 0 → just_before registers.pc ≡ asked_of registers
+  unfolding asked_of has_mark
+  asked_unmarked none = rw (eq-eqb _ _ none, asked_of)
 
-  pub asked-marked : ¬ (registers.first ≡ 0) → At registers.pc ≡ asked_of registers
-  unfolding asked_of hasMark
-  asked-marked set = rw (ne_eqb _ _ set, asked_of)
+  pub asked_marked : ¬ (registers.first ≡ 0) → At registers.pc ≡ asked_of registers
+  unfolding asked_of has_mark
+  asked_marked set = rw (ne_eqb _ _ set, asked_of)
 
 -- CFA, by the value of the base and the sum
-pub cfa-is : (registers : Registers) (row : Row) {base : ℕ} {sum : Address} → base ≡ baseValue registers row.base
-    → sum ≡ address_of base row.cfa.by → sum ≡ in_memory (cfaOf registers row)
-unfolding cfaOf address_of
-cfa-is registers row value sum = sum ∙ ap (λ b. address_of b row.cfa.by) value
+pub cfa_is : (registers : Registers) (row : Row) {base : ℕ} {sum : Address} → base ≡ base_value registers row.base
+    → sum ≡ address_of base row.cfa.by → sum ≡ in_memory (cfa_of registers row)
+unfolding cfa_of address_of
+cfa_is registers row value sum = sum ∙ ap (λ b. address_of b row.cfa.by) value

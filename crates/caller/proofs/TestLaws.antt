@@ -11,12 +11,12 @@ use lib.IntN.{ℤ, pos, negsuc, ◌+ℤ◌}
 use lib.ListN.{length}
 use lib.Signed.{◌≤ℤ◌, ◌<ℤ◌, le_z_yes, lt_z_yes}
 use borrow.Author.Tests.{ltb-true, ltb-false, lt-ltb, le-ltb, le-leb}
-use Rattle.numbers.specs.computed.Address.{in_memory, address_of, windowFits, wholly, word_of}
+use Rattle.numbers.specs.Computed.Address.{in_memory, address_of, window_fits, wholly, word_of}
 use Rattle.numbers.specs.declared.address.Address.{Address}
 use Rattle.numbers.specs.declared.address.Address.TheVariants as address
 use Rattle.numbers.specs.declared.address.Word.TheVariants as word
 use Rattle.numbers.specs.declared.field.Order.{Order}
-use Rattle.numbers.proofs.AddressLaws.{word-inside}
+use Rattle.numbers.proofs.AddressLaws.{word_inside}
 use Rattle.section.specs.declared.row.Place.{Place}
 use Rattle.section.specs.declared.row.Place.TheVariants.{Register, AtOffset}
 use Rattle.section.specs.declared.row.Row.{Row}
@@ -24,9 +24,9 @@ use Rattle.section.specs.declared.shape.Shape.{Shape}
 use Rattle.accept.proofs.Decides.{Shows, shown, denied, at_most, equal, both, either}
 use Rattle.lookup.proofs.CoveringLaws.{by_value, is_false}
 use Rattle.caller.specs.Cases.{WindowFits, Inside, WordIs, ValueIs, Outside, NoMark, Rule24, Rule26}
-use Rattle.caller.specs.Frame.{hasMark, callerSp}
+use Rattle.caller.specs.Frame.{has_mark, caller_sp}
 use Rattle.caller.specs.Signature.{Signed, is_signed}
-use Rattle.caller.specs.computed.Caller.{isMaskless, isLow, spotAt, spot_of, isLost, value_of}
+use Rattle.caller.specs.Computed.Caller.{is_maskless, is_low, spot_at, spot_of, is_lost, value_of}
 use Rattle.caller.specs.declared.registers.Registers.{Registers}
 use Rattle.caller.specs.declared.registers.Process.{Process}
 
@@ -43,63 +43,63 @@ twice {test = true} d = shown (d.holds refl)
 twice {test = false} d = denied (d.broken refl)
 
 -- 41
-pub fits-shows : (stack : List ℕ) (process : Process) → Shows (windowFits stack process.stack) (WindowFits stack process)
-unfolding windowFits
-fits-shows stack process = at_most _ _
+pub fits_shows : (stack : List ℕ) (process : Process) → Shows (window_fits stack process.stack) (WindowFits stack process)
+unfolding window_fits
+fits_shows stack process = at_most _ _
 
 -- "On AArch64, a row with the signed bit"
-pub signed-shows : (shape : Shape) (row : Row) → Shows (is_signed shape row) (Signed shape row)
+pub signed_shows : (shape : Shape) (row : Row) → Shows (is_signed shape row) (Signed shape row)
 unfolding is_signed
-signed-shows shape row = both (is_set shape.signs) (is_set row.signed)
+signed_shows shape row = both (is_set shape.signs) (is_set row.signed)
 
 -- 24
-pub maskless-shows : (shape : Shape) (row : Row) (process : Process) → Shows (isMaskless shape row process) (Rule24 shape row process)
-unfolding isMaskless
-maskless-shows shape row process = both (signed-shows shape row) (equal _ _)
+pub maskless_shows : (shape : Shape) (row : Row) (process : Process) → Shows (is_maskless shape row process) (Rule24 shape row process)
+unfolding is_maskless
+maskless_shows shape row process = both (signed_shows shape row) (equal _ _)
 
-pub mark-shows : (registers : Registers) → Shows (not (hasMark registers)) (NoMark registers)
-unfolding hasMark
-mark-shows registers = twice (equal _ _)
+pub mark_shows : (registers : Registers) → Shows (not (has_mark registers)) (NoMark registers)
+unfolding has_mark
+mark_shows registers = twice (equal _ _)
 
 -- 26
-pub low-shows : (registers : Registers) (cfa : ℕ) → Shows (isLow registers (callerSp cfa)) (Rule26 registers cfa)
-unfolding isLow
-low-shows registers cfa = either (below _ _) (both (equal _ _) (mark-shows registers))
+pub low_shows : (registers : Registers) (cfa : ℕ) → Shows (is_low registers (caller_sp cfa)) (Rule26 registers cfa)
+unfolding is_low
+low_shows registers cfa = either (below _ _) (both (equal _ _) (mark_shows registers))
 
 -- 27: only a register can be lost
-saved-kept : (registers : Registers) (a : Address) → isLost registers (spotAt a) ≡ false
-unfolding spotAt isLost
-saved-kept registers (address.At at) = refl
-saved-kept registers address.Outside = refl
+saved_kept : (registers : Registers) (a : Address) → is_lost registers (spot_at a) ≡ false
+unfolding spot_at is_lost
+saved_kept registers (address.At at) = refl
+saved_kept registers address.Outside = refl
 
-pub lost-shows : (registers : Registers) (cfa : ℕ) (place : Place)
-    → Shows (isLost registers (spot_of cfa place)) ((place ≡ Register) × NoMark registers)
-unfolding spot_of isLost
-lost-shows registers cfa Register =
-    let d = mark-shows registers in
+pub lost_shows : (registers : Registers) (cfa : ℕ) (place : Place)
+    → Shows (is_lost registers (spot_of cfa place)) ((place ≡ Register) × NoMark registers)
+unfolding spot_of is_lost
+lost_shows registers cfa Register =
+    let d = mark_shows registers in
     record { holds = λ e. (refl, d.holds e); broken = λ e h. d.broken e h.1 }
-lost-shows registers cfa (AtOffset offset) =
-    rw (saved-kept registers (address_of cfa offset.by))
+lost_shows registers cfa (AtOffset offset) =
+    rw (saved_kept registers (address_of cfa offset.by))
     (denied (λ h. let e : AtOffset offset ≡ Register = h.0 in let z : ◌≡◌ {A = ℕ} 0 1 = cc in omega arith))
 
 -- ---- a whole number as an address
 
-pub in-memory : (z : ℤ) (n : ℕ) → z ≡ pos n → n < 2 ^ 64 → in_memory z ≡ address.At n
+pub in_memory_lem : (z : ℤ) (n : ℕ) → z ≡ pos n → n < 2 ^ 64 → in_memory z ≡ address.At n
 unfolding in_memory
-in-memory z n e lt = rw e (rw (lt-ltb n (2 ^ 64) lt, in_memory))
+in_memory_lem z n e lt = rw e (rw (lt-ltb n (2 ^ 64) lt, in_memory))
 
-pub out-of-memory : (z : ℤ) → (z <ℤ pos 0) ⊎ (pos (2 ^ 64) ≤ℤ z) → in_memory z ≡ address.Outside
+pub out_of_memory : (z : ℤ) → (z <ℤ pos 0) ⊎ (pos (2 ^ 64) ≤ℤ z) → in_memory z ≡ address.Outside
 unfolding in_memory
-out-of-memory (pos n) (inl h) = let lt : n < 0 = ltb→lt n 0 h.lt in absurd (omega arith)
-out-of-memory (pos n) (inr h) = rw (le-ltb n (2 ^ 64) (leb→le (2 ^ 64) n h.le), in_memory)
-out-of-memory (negsuc n) h = refl
+out_of_memory (pos n) (inl h) = let lt : n < 0 = ltb→lt n 0 h.lt in absurd (omega arith)
+out_of_memory (pos n) (inr h) = rw (le-ltb n (2 ^ 64) (leb→le (2 ^ 64) n h.le), in_memory)
+out_of_memory (negsuc n) h = refl
 
-pub memory-decided : (z : ℤ) → ((n : ℕ) × (z ≡ pos n) × (n < 2 ^ 64)) ⊎ ((z <ℤ pos 0) ⊎ (pos (2 ^ 64) ≤ℤ z))
-memory-decided (pos n) =
+pub memory_decided : (z : ℤ) → ((n : ℕ) × (z ≡ pos n) × (n < 2 ^ 64)) ⊎ ((z <ℤ pos 0) ⊎ (pos (2 ^ 64) ≤ℤ z))
+memory_decided (pos n) =
     by_value (ltb n (2 ^ 64))
     (λ e. inl (n, refl, ltb-true n (2 ^ 64) e))
     (λ e. inr (inr (le_z_yes (rw (le-leb (2 ^ 64) n (ltb-false n (2 ^ 64) e)) tt))))
-memory-decided (negsuc n) = inr (inl (lt_z_yes tt))
+memory_decided (negsuc n) = inr (inl (lt_z_yes tt))
 
 -- ---- the word at a place
 
@@ -108,28 +108,28 @@ module _ (stack : List ℕ) (lies : ℕ) where
   inside_of : (n : ℕ) → Inside stack lies (pos n) → (lies ≤ n) × (n + 8 ≤ lies + length stack)
   inside_of n h = (leb→le lies n h.0.le, leb→le (n + 8) (lies + length stack) h.1.le)
 
-  pub of-inside : (n : ℕ) → lies ≤ n → n + 8 ≤ lies + length stack → Inside stack lies (pos n)
-  of-inside n from to = (le_z_yes (rw (le-leb lies n from) tt), le_z_yes (rw (le-leb (n + 8) (lies + length stack) to) tt))
+  pub of_inside : (n : ℕ) → lies ≤ n → n + 8 ≤ lies + length stack → Inside stack lies (pos n)
+  of_inside n from to = (le_z_yes (rw (le-leb lies n from) tt), le_z_yes (rw (le-leb (n + 8) (lies + length stack) to) tt))
 
   module _ (order : Order) where
     -- what stands at the address that z is, or beyond
     word-given : (register : ℕ) (z : ℤ) (value : ℕ) → lies + length stack ≤ 2 ^ 64 → WordIs stack lies order z value
-        → value_of stack lies order register (spotAt (in_memory z)) ≡ word.Is value
-    unfolding spotAt value_of
+        → value_of stack lies order register (spot_at (in_memory z)) ≡ word.Is value
+    unfolding spot_at value_of
     word-given register z value fits h =
-        ap (λ a. value_of stack lies order register (spotAt a)) (in-memory z h.at h.at-is (omega arith))
-        ∙ sym (word-inside stack lies h.at order h.from h.to)
-        ∙ ap word.Is (sym h.value-is)
+        ap (λ a. value_of stack lies order register (spot_at a)) (in_memory_lem z h.at h.at_is (omega arith))
+        ∙ sym (word_inside stack lies h.at order h.from h.to)
+        ∙ ap word.Is (sym h.value_is)
 
     wholly-shows : (at : ℕ) → Shows (wholly stack lies at) ((lies ≤ at) × (at + 8 ≤ lies + length stack))
     unfolding wholly
     wholly-shows at = both (at_most _ _) (at_most _ _)
 
-    outside-given : (register : ℕ) (z : ℤ) → ¬ Inside stack lies z → value_of stack lies order register (spotAt (in_memory z)) ≡ word.Outside
-    unfolding in_memory spotAt value_of word_of
+    outside-given : (register : ℕ) (z : ℤ) → ¬ Inside stack lies z → value_of stack lies order register (spot_at (in_memory z)) ≡ word.Outside
+    unfolding in_memory spot_at value_of word_of
     outside-given register (negsuc n) out = refl
     outside-given register (pos n) out =
-        let past = is_false (wholly-shows n) (λ h. out (of-inside n h.0 h.1)) in
+        let past = is_false (wholly-shows n) (λ h. out (of_inside n h.0 h.1)) in
         by_value (ltb n (2 ^ 64)) (λ e. rw (e, in_memory) (rw (past, word_of))) (λ e. rw (e, in_memory))
 
     word-decided : (z : ℤ) → ((value : ℕ) × WordIs stack lies order z value) ⊎ (¬ Inside stack lies z)
@@ -138,16 +138,16 @@ module _ (stack : List ℕ) (lies : ℕ) where
         by_value (wholly stack lies n)
         (λ e.
         let (from, to) = (wholly-shows n).holds e in
-        inl (_, record { at = n; at-is = refl; from = from; to = to; value-is = refl }))
+        inl (_, record { at = n; at_is = refl; from = from; to = to; value_is = refl }))
         (λ e. inr (λ h. (wholly-shows n).broken e (inside_of n h)))
 
     -- ---- the value of a saved place
 
-    pub value-given : (cfa register : ℕ) (place : Place) (value : ℕ) → lies + length stack ≤ 2 ^ 64
+    pub value_given : (cfa register : ℕ) (place : Place) (value : ℕ) → lies + length stack ≤ 2 ^ 64
         → ValueIs stack lies order cfa register place value → value_of stack lies order register (spot_of cfa place) ≡ word.Is value
     unfolding spot_of value_of address_of
-    value-given cfa register Register value fits h = ap word.Is (sym h)
-    value-given cfa register (AtOffset offset) value fits h = word-given register (pos cfa +ℤ offset.by) value fits h
+    value_given cfa register Register value fits h = ap word.Is (sym h)
+    value_given cfa register (AtOffset offset) value fits h = word-given register (pos cfa +ℤ offset.by) value fits h
 
     pub no_value : (cfa register : ℕ) (place : Place) → Outside stack lies cfa place
         → value_of stack lies order register (spot_of cfa place) ≡ word.Outside
@@ -155,7 +155,7 @@ module _ (stack : List ℕ) (lies : ℕ) where
     no_value cfa register Register h = absurd h
     no_value cfa register (AtOffset offset) h = outside-given register (pos cfa +ℤ offset.by) h
 
-    pub value-decided : (cfa register : ℕ) (place : Place)
+    pub value_decided : (cfa register : ℕ) (place : Place)
         → ((value : ℕ) × ValueIs stack lies order cfa register place value) ⊎ Outside stack lies cfa place
-    value-decided cfa register Register = inl (register, refl)
-    value-decided cfa register (AtOffset offset) = word-decided (pos cfa +ℤ offset.by)
+    value_decided cfa register Register = inl (register, refl)
+    value_decided cfa register (AtOffset offset) = word-decided (pos cfa +ℤ offset.by)

@@ -12,13 +12,13 @@ use Rattle.section.specs.declared.row.Row.{Row}
 use Rattle.section.specs.declared.shape.Abi.{Abi}
 use Rattle.section.specs.declared.shape.Abi.TheVariants.{Aarch64Big, Aarch64Little}
 use Rattle.section.specs.declared.shape.Shape.{Shape}
-use Rattle.accept.specs.Given.{Rule, numberOfRule, BrokenFirst}
+use Rattle.accept.specs.Given.{Rule, number_of_rule, BrokenFirst}
 use Rattle.accept.specs.Given as accept
 use Rattle.accept.specs.Rules.{Obeys}
 use Rattle.lookup.specs.Cases.{NoneCovers, SomeTwoCover, FoundCase, NoRowCase}
-use Rattle.lookup.specs.Numbers.{noFunction, dispute, no_row}
-use Rattle.caller.specs.Frame.{asked_of, cfaOf, callerSp}
-use Rattle.caller.specs.Numbers.{Refusal, unfound, signed, cfaOutside, cfaLow, raLost, wordOutside, numberOfRefusal, StepCause, window, unsound, refused, numberOfStepCause}
+use Rattle.lookup.specs.Numbers.{no_function, dispute, no_row}
+use Rattle.caller.specs.Frame.{asked_of, cfa_of, caller_sp}
+use Rattle.caller.specs.Numbers.{Refusal, unfound, signed, cfaOutside, cfaLow, raLost, wordOutside, number_of_refusal, StepCause, window, unsound, refused, number_of_step_cause}
 use Rattle.caller.specs.Signature.{Signed, mask_of, clear}
 use Rattle.caller.specs.declared.registers.Asked.TheVariants.{At, Nowhere}
 use Rattle.caller.specs.declared.registers.Registers.{Registers}
@@ -43,10 +43,10 @@ Inside stack lies z = (pos lies ≤ℤ z) × ((z +ℤ pos 8) ≤ℤ pos (lies + 
 -- "Words are 8 bytes in the section's byte order.": the word at z is inside, and this is its value
 pub record WordIs (stack : List ℕ) (lies : ℕ) (order : Order) (z : ℤ) (value : ℕ) : Type 0 where
   pub at : ℕ
-  pub at-is : z ≡ pos at
+  pub at_is : z ≡ pos at
   pub from : lies ≤ at
   pub to : at + 8 ≤ lies + length stack
-  pub value-is : value ≡ field_of stack (at - lies) 8 order
+  pub value_is : value ≡ field_of stack (at - lies) 8 order
 
 -- ---- a saved place: "one of two kinds, in a register or at an offset from CFA"
 
@@ -70,23 +70,23 @@ NoMark registers = registers.first ≡ 0
 abbrev pub Aarch64 : Abi → Type 0
 Aarch64 abi = (abi ≡ Aarch64Big) ⊎ (abi ≡ Aarch64Little)
 
--- 24: "AArch64 and the row's signed bit is set.", and "only when the mask is 0"; in the row's bytes `rule-24-in-bytes`
+-- 24: "AArch64 and the row's signed bit is set.", and "only when the mask is 0"; in the row's bytes `rule_24_in_bytes`
 abbrev pub Rule24 : Shape → Row → Process → Type 0
 Rule24 shape row process = Signed shape row × (process.mask ≡ 0)
 
 -- "CFA is base plus first offset. 25 when outside 0 to 2^64 - 1."
 abbrev pub Rule25 : Registers → Row → Type 0
-Rule25 registers row = (cfaOf registers row <ℤ pos 0) ⊎ (pos (2 ^ 64) ≤ℤ cfaOf registers row)
+Rule25 registers row = (cfa_of registers row <ℤ pos 0) ⊎ (pos (2 ^ 64) ≤ℤ cfa_of registers row)
 
 -- its contrary, with CFA's value
 abbrev pub CfaIs : Registers → Row → ℕ → Type 0
-CfaIs registers row cfa = (cfaOf registers row ≡ pos cfa) × (cfa < 2 ^ 64)
+CfaIs registers row cfa = (cfa_of registers row ≡ pos cfa) × (cfa < 2 ^ 64)
 
 -- 26: "CFA below SP, or equal to SP without the first-frame mark.", of "SP = CFA", the caller's
 abbrev pub Rule26 : Registers → ℕ → Type 0
-Rule26 registers cfa = (callerSp cfa < registers.sp) ⊎ ((callerSp cfa ≡ registers.sp) × NoMark registers)
+Rule26 registers cfa = (caller_sp cfa < registers.sp) ⊎ ((caller_sp cfa ≡ registers.sp) × NoMark registers)
 
--- 27: "AArch64, count 1, without the mark.": it is such a row that has RA in its register (`rule-27-in-bytes`)
+-- 27: "AArch64, count 1, without the mark.": it is such a row that has RA in its register (`rule_27_in_bytes`)
 abbrev pub Rule27 : Registers → Row → Type 0
 Rule27 registers row = (row.ra ≡ Register) × NoMark registers
 
@@ -94,7 +94,7 @@ Rule27 registers row = (row.ra ≡ Register) × NoMark registers
 abbrev pub Rule28 : List ℕ → Process → Row → ℕ → Type 0
 Rule28 stack process row cfa = Outside stack process.stack cfa row.ra ⊎ Outside stack process.stack cfa row.fp
 
--- ---- the PC asked (`asked-exactly-when`, `nowhere-exactly-when`)
+-- ---- the PC asked (`asked_exactly_when`, `nowhere_exactly_when`)
 
 -- "without the first-frame mark, look up PC minus 1; with it, PC itself."
 abbrev pub Asks : Registers → ℕ → Type 0
@@ -128,21 +128,21 @@ module _ (s stack : List ℕ) (process : Process) (registers : Registers) where
 
   -- the row's CFA is this: 24 and 25 are past
   pub record CfaAt (row : Row) (cfa : ℕ) : Type 0 where
-    pub row-found : RowFound row
-    pub not-24 : ¬ Rule24 (shape_of s) row process
-    pub cfa-is : CfaIs registers row cfa
+    pub row_found : RowFound row
+    pub not_24 : ¬ Rule24 (shape_of s) row process
+    pub cfa_is : CfaIs registers row cfa
 
   -- "a needed word (RA first)": 26 and 27 are past
   pub record WordsAt (row : Row) (cfa : ℕ) : Type 0 where
-    pub cfa-at : CfaAt row cfa
-    pub not-26 : ¬ Rule26 registers cfa
-    pub not-27 : ¬ Rule27 registers row
+    pub cfa_at : CfaAt row cfa
+    pub not_26 : ¬ Rule26 registers cfa
+    pub not_27 : ¬ Rule27 registers row
 
   -- ---- every number
 
   -- the step's own refusal of this name is the first
   abbrev pub OnRefusal : Refusal → Type 0
-  OnRefusal (unfound noFunction) = LookedUp (NoneCovers s) ⊎ NothingAsked
+  OnRefusal (unfound no_function) = LookedUp (NoneCovers s) ⊎ NothingAsked
   OnRefusal (unfound dispute) = LookedUp (SomeTwoCover s)
   OnRefusal (unfound no_row) = LookedUp (λ d. (i : ℕ) × NoRowCase s d i)
   OnRefusal signed = (row : Row) × RowFound row × Rule24 (shape_of s) row process
@@ -164,24 +164,24 @@ module _ (s stack : List ℕ) (process : Process) (registers : Registers) where
   pub record CallerCase (caller : Registers) : Type 0 where
     pub row : Row
     pub cfa : ℕ
-    pub words-at : WordsAt row cfa
+    pub words_at : WordsAt row cfa
     pub ra : ℕ
-    pub ra-is : ValueIs stack process.stack (shape_of s).order cfa registers.lr row.ra ra
-    pub pc-is : caller.pc ≡ clear (mask_of (shape_of s) row process) ra
-    pub sp-is : caller.sp ≡ callerSp cfa
-    pub fp-is : ValueIs stack process.stack (shape_of s).order cfa registers.fp row.fp caller.fp
-    pub lr-is : caller.lr ≡ registers.lr
-    pub first-is : caller.first ≡ 0
+    pub ra_is : ValueIs stack process.stack (shape_of s).order cfa registers.lr row.ra ra
+    pub pc_is : caller.pc ≡ clear (mask_of (shape_of s) row process) ra
+    pub sp_is : caller.sp ≡ caller_sp cfa
+    pub fp_is : ValueIs stack process.stack (shape_of s).order cfa registers.fp row.fp caller.fp
+    pub lr_is : caller.lr ≡ registers.lr
+    pub first_is : caller.first ≡ 0
 
   -- "for 1 to 15 the entry's index"
   abbrev pub UnsoundCase : ℕ → ℕ → Type 0
-  UnsoundCase number index = WindowFits stack process × (rule : Rule) × (number ≡ numberOfRule rule) × accept.Given s rule index
+  UnsoundCase number index = WindowFits stack process × (rule : Rule) × (number ≡ number_of_rule rule) × accept.Given s rule index
 
   -- 41, or the step's own
   abbrev pub RefusedCase : ℕ → Type 0
   RefusedCase number =
-      ((number ≡ numberOfStepCause window) × Rule41 stack process)
-      ⊎ ((refusal : Refusal) × (number ≡ numberOfRefusal refusal) × OnRefusal refusal)
+      ((number ≡ number_of_step_cause window) × Rule41 stack process)
+      ⊎ ((refusal : Refusal) × (number ≡ number_of_refusal refusal) × OnRefusal refusal)
 
   -- what holds where this is the answer; "a refusal hands back the old ones with its number"
   abbrev pub Case : Step → Type 0

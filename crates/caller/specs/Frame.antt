@@ -9,30 +9,30 @@ use Rattle.caller.specs.declared.registers.Asked.TheVariants.{At, Nowhere}
 use Rattle.caller.specs.declared.registers.Registers.{Registers}
 
 -- "a first-frame mark": any number but 0
-unfoldable pub hasMark : Registers → Bool
-hasMark registers = not (eqb registers.first 0)
+unfoldable pub has_mark : Registers → Bool
+has_mark registers = not (eqb registers.first 0)
 
 -- "PC minus 1", which is inside the call that the return address PC stands behind; before PC 0 there is none
-unfoldable pub justBefore : ℕ → Asked
-justBefore zero = Nowhere
-justBefore (suc pc) = At pc
+unfoldable pub just_before : ℕ → Asked
+just_before zero = Nowhere
+just_before (suc pc) = At pc
 
 -- request 03, "without the first-frame mark, look up PC minus 1; with it, PC itself": the PC asked, the one that is looked up
 unfoldable pub asked_of : Registers → Asked
-asked_of registers = elim (hasMark registers) [ true ↦ At registers.pc | false ↦ justBefore registers.pc ]
+asked_of registers = elim (has_mark registers) [ true ↦ At registers.pc | false ↦ just_before registers.pc ]
 
 -- "CFA is base plus first offset.", an exact number
-unfoldable pub baseValue : Registers → Base → ℕ
-baseValue registers Fp = registers.fp
-baseValue registers Sp = registers.sp
+unfoldable pub base_value : Registers → Base → ℕ
+base_value registers Fp = registers.fp
+base_value registers Sp = registers.sp
 
-unfoldable pub cfaOf : Registers → Row → ℤ
-cfaOf registers row = pos (baseValue registers row.base) +ℤ row.cfa.by
+unfoldable pub cfa_of : Registers → Row → ℤ
+cfa_of registers row = pos (base_value registers row.base) +ℤ row.cfa.by
 
 -- "The caller has .. SP = CFA"
-unfoldable pub callerSp : ℕ → ℕ
-callerSp cfa = cfa
+unfoldable pub caller_sp : ℕ → ℕ
+caller_sp cfa = cfa
 
--- and back: the CFA of the frame whose caller has this SP (`cfa-of-caller`)
-unfoldable pub cfaOfSp : ℕ → ℕ
-cfaOfSp sp = sp
+-- and back: the CFA of the frame whose caller has this SP (`cfa_of_caller`)
+unfoldable pub cfa_of_sp : ℕ → ℕ
+cfa_of_sp sp = sp

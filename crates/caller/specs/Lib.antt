@@ -3,5 +3,5 @@ pub mod Frame
 pub mod InBytes
 pub mod Numbers
 pub mod Signature
-pub mod computed
-pub mod inner
+pub mod Computed
+pub mod Inner

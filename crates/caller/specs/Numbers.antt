@@ -1,8 +1,8 @@
 -- The numbers of a step (SPECIFICATION 5.3 to 5.12): why there is no caller, by name, and document 01's number of each cause; and of
 -- each answer the number and what it carries.
 use Rattle.std.specs.Prelude.{ℕ, List, [], ◌∷◌}
-use Rattle.accept.specs.Given.{Rule, numberOfRule}
-use Rattle.lookup.specs.Numbers.{Unfound, numberOfUnfound}
+use Rattle.accept.specs.Given.{Rule, number_of_rule}
+use Rattle.lookup.specs.Numbers.{Unfound, number_of_unfound}
 use Rattle.caller.specs.declared.registers.Registers.{Registers}
 use Rattle.caller.specs.declared.registers.Step.{Step}
 use Rattle.caller.specs.declared.registers.Step.TheVariants.{Caller, Unsound, Refused}
@@ -18,13 +18,13 @@ pub data Refusal : Type 0 where
   raLost : Refusal
   wordOutside : Refusal
 
-unfoldable pub numberOfRefusal : Refusal → ℕ
-numberOfRefusal (unfound why) = numberOfUnfound why
-numberOfRefusal signed = 24
-numberOfRefusal cfaOutside = 25
-numberOfRefusal cfaLow = 26
-numberOfRefusal raLost = 27
-numberOfRefusal wordOutside = 28
+unfoldable pub number_of_refusal : Refusal → ℕ
+number_of_refusal (unfound why) = number_of_unfound why
+number_of_refusal signed = 24
+number_of_refusal cfaOutside = 25
+number_of_refusal cfaLow = 26
+number_of_refusal raLost = 27
+number_of_refusal wordOutside = 28
 
 -- "41 .. Then 1 to 15.", and then the step's own
 pub data StepCause : Type 0 where
@@ -32,27 +32,27 @@ pub data StepCause : Type 0 where
   unsound : Rule → StepCause
   refused : Refusal → StepCause
 
-unfoldable pub numberOfStepCause : StepCause → ℕ
-numberOfStepCause window = 41
-numberOfStepCause (unsound rule) = numberOfRule rule
-numberOfStepCause (refused refusal) = numberOfRefusal refusal
+unfoldable pub number_of_step_cause : StepCause → ℕ
+number_of_step_cause window = 41
+number_of_step_cause (unsound rule) = number_of_rule rule
+number_of_step_cause (refused refusal) = number_of_refusal refusal
 
 -- ---- answers
 
 -- 0 for a caller
-unfoldable pub stepNumber : Step → ℕ
-stepNumber (Caller caller) = 0
-stepNumber (Unsound old number index) = number
-stepNumber (Refused old number) = number
+unfoldable pub step_number : Step → ℕ
+step_number (Caller caller) = 0
+step_number (Unsound old number index) = number
+step_number (Refused old number) = number
 
 -- "for 1 to 15 the entry's index"
-unfoldable pub stepIndexes : Step → List ℕ
-stepIndexes (Caller caller) = []
-stepIndexes (Unsound old number index) = index ∷ []
-stepIndexes (Refused old number) = []
+unfoldable pub step_indexes : Step → List ℕ
+step_indexes (Caller caller) = []
+step_indexes (Unsound old number index) = index ∷ []
+step_indexes (Refused old number) = []
 
 -- "the caller's registers are handed back; a refusal hands back the old ones"
-unfoldable pub stepRegisters : Step → Registers
-stepRegisters (Caller caller) = caller
-stepRegisters (Unsound old number index) = old
-stepRegisters (Refused old number) = old
+unfoldable pub step_registers : Step → Registers
+step_registers (Caller caller) = caller
+step_registers (Unsound old number index) = old
+step_registers (Refused old number) = old

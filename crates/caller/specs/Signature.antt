@@ -9,7 +9,7 @@ use Rattle.caller.specs.declared.registers.Process.{Process}
 abbrev pub Signed : Shape → Row → Type 0
 Signed shape row = (shape.signs ≡ true) × (row.signed ≡ true)
 
--- the same as a test (`signed-shows`)
+-- the same as a test (`signed_shows`)
 unfoldable pub is_signed : Shape → Row → Bool
 is_signed shape row = shape.signs && row.signed
 
@@ -17,13 +17,13 @@ is_signed shape row = shape.signs && row.signed
 unfoldable pub mask_of : Shape → Row → Process → ℕ
 mask_of shape row process = elim (is_signed shape row) [ true ↦ process.mask | false ↦ 0 ]
 
--- "has the mask's bits cleared from RA": RA less those of its bits that the mask has too (`clear-exactly-when`)
+-- "has the mask's bits cleared from RA": RA less those of its bits that the mask has too (`clear_exactly_when`)
 unfoldable pub clear : ℕ → ℕ → ℕ
 clear mask ra = ra - bit_and mask ra
 
 -- this process with another mask
-abbrev pub withMask : Process → ℕ → Process
-withMask process mask = record { section = process.section; stack = process.stack; mask = mask }
+abbrev pub with_mask : Process → ℕ → Process
+with_mask process mask = record { section = process.section; stack = process.stack; mask = mask }
 
 -- ---- bit by bit
 

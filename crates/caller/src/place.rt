@@ -1,6 +1,6 @@
 // Where RA and FP of the caller are found, and what stands there.
 ghost use Rattle.std.specs.Prelude.{◌≡◌};
-ghost use Rattle.caller.specs.computed.Caller.{spotAt, spot_of, isLost, value_of, values_of};
+ghost use Rattle.caller.specs.Computed.Caller.{spot_at, spot_of, is_lost, value_of, values_of};
 
 use crate::registers::Registers;
 use numbers::address::{Address, Word, address_of, word_at};
@@ -25,7 +25,7 @@ pub enum Values {
 }
 
 fn spot_at(address: Address) -> Spot
-    ensures { result ≡ spotAt address }
+    ensures { result ≡ spot_at address }
 {
     match address {
         Address::At(at) => Spot::Saved(at),
@@ -45,7 +45,7 @@ pub fn spot_of(cfa: u64, place: Place) -> Spot
 
 // Whether RA is lost: it would be in LR, which is trusted with the mark alone.
 pub fn is_lost(registers: Registers, ra: Spot) -> bool
-    ensures { result ≡ isLost registers ra }
+    ensures { result ≡ is_lost registers ra }
 {
     match ra {
         Spot::Kept => registers.first == 0,

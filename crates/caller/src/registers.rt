@@ -1,8 +1,8 @@
 // The registers that a step begins with and hands back, and what is read off them.
 ghost use Rattle.std.specs.Prelude.{◌≡◌};
-ghost use Rattle.numbers.specs.computed.Address.{in_memory};
-ghost use Rattle.caller.specs.Frame.{justBefore, asked_of, baseValue, cfaOf, callerSp, cfaOfSp};
-ghost use Rattle.caller.specs.computed.Caller.{isLow};
+ghost use Rattle.numbers.specs.Computed.Address.{in_memory};
+ghost use Rattle.caller.specs.Frame.{just_before, asked_of, base_value, cfa_of, caller_sp, cfa_of_sp};
+ghost use Rattle.caller.specs.Computed.Caller.{is_low};
 
 use numbers::address::{Address, address_of};
 use section::row::{Base, Row};
@@ -56,7 +56,7 @@ pub enum Step {
 // One before a PC. A return address stands behind its call, and behind the function where the call is the function's last instruction;
 // one before it is inside both. Before 0 there is nothing.
 fn just_before(pc: u64) -> Asked
-    ensures { result ≡ justBefore pc }
+    ensures { result ≡ just_before pc }
 {
     if pc == 0 {
         return Asked::Nowhere;
@@ -76,7 +76,7 @@ pub fn asked_of(registers: Registers) -> Asked
 }
 
 pub fn base_value(registers: Registers, base: Base) -> u64
-    ensures { result ≡ baseValue registers base }
+    ensures { result ≡ base_value registers base }
 {
     match base {
         Base::Fp => registers.fp,
@@ -86,7 +86,7 @@ pub fn base_value(registers: Registers, base: Base) -> u64
 
 // CFA, where that is an address at all.
 pub fn cfa_of(registers: Registers, row: Row) -> Address
-    ensures { result ≡ in_memory (cfaOf registers row) }
+    ensures { result ≡ in_memory (cfa_of registers row) }
 {
     let base = row.base;
     let offset = row.cfa;
@@ -95,21 +95,21 @@ pub fn cfa_of(registers: Registers, row: Row) -> Address
 
 // The caller's SP, by CFA.
 pub fn caller_sp(cfa: u64) -> u64
-    ensures { result ≡ callerSp cfa }
+    ensures { result ≡ caller_sp cfa }
 {
     cfa
 }
 
 // The CFA of the frame whose caller has this SP.
 pub fn cfa_of_sp(sp: u64) -> u64
-    ensures { result ≡ cfaOfSp sp }
+    ensures { result ≡ cfa_of_sp sp }
 {
     sp
 }
 
 // Whether the stack would not shrink: the caller's SP is below SP, or equal to it without the mark.
 pub fn is_low(registers: Registers, sp: u64) -> bool
-    ensures { result ≡ isLow registers sp }
+    ensures { result ≡ is_low registers sp }
 {
     if registers.first == 0 {
         return sp <= registers.sp;

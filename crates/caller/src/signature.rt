@@ -1,7 +1,7 @@
 // A signed return address: by which bits it is signed, and what it is without them.
 ghost use Rattle.std.specs.Prelude.{◌≡◌};
 ghost use Rattle.caller.specs.Signature.{is_signed, mask_of, clear};
-ghost use Rattle.caller.specs.computed.Caller.{isMaskless};
+ghost use Rattle.caller.specs.Computed.Caller.{is_maskless};
 
 use crate::registers::Process;
 use section::row::Row;
@@ -19,7 +19,7 @@ fn is_signed(shape: Shape, row: Row) -> bool
 
 // Whether it is signed and no mask says by which bits.
 pub fn is_maskless(shape: Shape, row: Row, process: Process) -> bool
-    ensures { result ≡ isMaskless shape row process }
+    ensures { result ≡ is_maskless shape row process }
 {
     if is_signed(shape, row) {
         return process.mask == 0;

@@ -2,10 +2,10 @@
 // back.
 ghost use Rattle.std.specs.Prelude.{◌≡◌};
 ghost use Rattle.section.specs.Meaning.{shape_of};
-ghost use Rattle.lookup.specs.Finding.{findingOf};
-ghost use Rattle.lookup.specs.computed.Answers.{lookIn};
-ghost use Rattle.lookup.specs.inner.Requires.{AcceptedOf};
-ghost use Rattle.caller.specs.computed.Caller.{withValues, fromSpots, fromCfa, fromRow, fromFinding, step_of, stepIn};
+ghost use Rattle.lookup.specs.Finding.{finding_of};
+ghost use Rattle.lookup.specs.Computed.Answers.{look_in_lem};
+ghost use Rattle.lookup.specs.Inner.Requires.{AcceptedOf};
+ghost use Rattle.caller.specs.Computed.Caller.{with_values, from_spots, from_cfa, from_row, from_finding, step_of, step_in};
 
 use crate::place::{Spot, Values, is_lost, spot_of, values_at};
 use crate::registers::{Asked, Process, Registers, Step, asked_of, caller_sp, cfa_of, is_low};
@@ -22,7 +22,7 @@ use section::shape::{Shape, shape_of};
 impl Registers {
     // 28, or the caller: its PC is RA without the bits of the mask, wherever RA came from.
     fn with_values(self, mask: u64, cfa: u64, values: Values) -> Step
-        ensures { result ≡ withValues self mask cfa values }
+        ensures { result ≡ with_values self mask cfa values }
     {
         let lr = self.lr;
         match values {
@@ -55,7 +55,7 @@ impl Registers {
         ra: Spot,
         fp: Spot,
     ) -> Step
-        ensures { result ≡ fromSpots shape stack.now process self mask cfa ra fp }
+        ensures { result ≡ from_spots shape stack.now process self mask cfa ra fp }
     {
         if is_lost(self, ra) {
             return Step::Refused {
@@ -73,7 +73,7 @@ impl Registers {
 
     // 26, then the places of RA and FP.
     fn from_cfa(self, shape: Shape, stack: &[u8], process: Process, row: Row, cfa: u64) -> Step
-        ensures { result ≡ fromCfa shape stack.now process self row cfa }
+        ensures { result ≡ from_cfa shape stack.now process self row cfa }
     {
         if is_low(self, caller_sp(cfa)) {
             return Step::Refused {
@@ -97,7 +97,7 @@ impl Registers {
 
     // The step that a row defines, with no section at hand: 24, 25 and what follows.
     pub fn from_row(self, shape: Shape, stack: &[u8], process: Process, row: Row) -> Step
-        ensures { result ≡ fromRow shape stack.now process self row }
+        ensures { result ≡ from_row shape stack.now process self row }
     {
         if is_maskless(shape, row, process) {
             return Step::Refused {
@@ -116,7 +116,7 @@ impl Registers {
 
     // The step from what a lookup found.
     fn from_outcome(self, shape: Shape, stack: &[u8], process: Process, outcome: Outcome) -> Step
-        ensures { result ≡ fromFinding shape stack.now process self (findingOf outcome) }
+        ensures { result ≡ from_finding shape stack.now process self (finding_of outcome) }
     {
         match outcome {
             Outcome::Found {
@@ -152,7 +152,7 @@ impl Registers {
         process: Process,
     ) -> Step
         requires { AcceptedOf section.now layout }
-        ensures { result ≡ step_of (shape_of section.now) (lookIn section.now process.section) stack.now process self }
+        ensures { result ≡ step_of (shape_of section.now) (look_in_lem section.now process.section) stack.now process self }
     {
         let Asked::At(pc) = asked_of(self) else {
             return Step::Refused {
@@ -168,7 +168,7 @@ impl Registers {
 
     // The step on any bytes, stack and registers: 41 and 1 to 15 first.
     pub fn step(self, section: &[u8], stack: &[u8], process: Process) -> Step
-        ensures { result ≡ stepIn section.now stack.now process self }
+        ensures { result ≡ step_in section.now stack.now process self }
     {
         if !window_fits(stack, process.stack) {
             return Step::Refused {

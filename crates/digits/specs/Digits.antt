@@ -5,27 +5,27 @@ use Rattle.digits.specs.declared.Parsed.{Parsed}
 use Rattle.digits.specs.declared.Parsed.TheVariants.{Number, Wrong}
 
 -- whether n lies from low to high
-abbrev pub isBetween : ℕ → ℕ → ℕ → Bool
-isBetween low high n = leb low n && leb n high
+abbrev pub is_between : ℕ → ℕ → ℕ → Bool
+is_between low high n = leb low n && leb n high
 
 -- the value of a digit by its byte: 0 to 9, A to F and a to f; 16 of any other byte
-unfoldable pub digitOf : ℕ → ℕ
-digitOf byte =
-    elim (isBetween 48 57 byte) [
+unfoldable pub digit_of : ℕ → ℕ
+digit_of byte =
+    elim (is_between 48 57 byte) [
       | true ↦ byte - 48
-      | false ↦ elim (isBetween 65 70 byte)
-          [ true ↦ byte - 55 | false ↦ elim (isBetween 97 102 byte) [ true ↦ byte - 87 | false ↦ 16 ] ]
+      | false ↦ elim (is_between 65 70 byte)
+          [ true ↦ byte - 55 | false ↦ elim (is_between 97 102 byte) [ true ↦ byte - 87 | false ↦ 16 ] ]
     ]
 
 -- the number that digits to a base make behind those read so far, which make n; wrong where a byte is no digit of that base
-unfoldable pub digitsFrom : ℕ → ℕ → List ℕ → Parsed
-digitsFrom base n [] = Number n
-digitsFrom base n (byte ∷ text) =
-    elim (ltb (digitOf byte) base) [ true ↦ digitsFrom base (base * n + digitOf byte) text | false ↦ Wrong ]
+unfoldable pub digits_from : ℕ → ℕ → List ℕ → Parsed
+digits_from base n [] = Number n
+digits_from base n (byte ∷ text) =
+    elim (ltb (digit_of byte) base) [ true ↦ digits_from base (base * n + digit_of byte) text | false ↦ Wrong ]
 
 -- the number that 1 to `most` digits make
-unfoldable pub digitsOf : ℕ → ℕ → List ℕ → Parsed
-digitsOf base most text = elim (isBetween 1 most (length text)) [ true ↦ digitsFrom base 0 text | false ↦ Wrong ]
+unfoldable pub digits_of : ℕ → ℕ → List ℕ → Parsed
+digits_of base most text = elim (is_between 1 most (length text)) [ true ↦ digits_from base 0 text | false ↦ Wrong ]
 
 -- how many zeros stand in front of another byte
 unfoldable pub padding : List ℕ → ℕ
@@ -35,20 +35,20 @@ padding (byte ∷ next ∷ text) = elim (eqb byte 48) [ true ↦ suc (padding (n
 
 -- the number that 1 to `most` digits make behind their leading zeros
 unfoldable pub number_of : ℕ → ℕ → List ℕ → Parsed
-number_of base most text = digitsOf base most (drop (padding text) text)
+number_of base most text = digits_of base most (drop (padding text) text)
 
 -- x or X
-unfoldable pub isX : ℕ → Bool
-isX byte = eqb byte 120 || eqb byte 88
+unfoldable pub is_x : ℕ → Bool
+is_x byte = eqb byte 120 || eqb byte 88
 
 -- whether text begins with 0x or 0X
 unfoldable pub marked : List ℕ → Bool
-marked text = eqb (get_or text 0 0) 48 && isX (get_or text 1 0)
+marked text = eqb (get_or text 0 0) 48 && is_x (get_or text 1 0)
 
 -- the hexadecimal number that text says, with or without a leading 0x or 0X
-unfoldable pub hexOf : List ℕ → Parsed
-hexOf text = elim (marked text) [ true ↦ number_of 16 16 (drop 2 text) | false ↦ number_of 16 16 text ]
+unfoldable pub hex_of : List ℕ → Parsed
+hex_of text = elim (marked text) [ true ↦ number_of 16 16 (drop 2 text) | false ↦ number_of 16 16 text ]
 
 -- the decimal number that text says: 19 digits make less than 2 ^ 64
-unfoldable pub decimalOf : List ℕ → Parsed
-decimalOf text = number_of 10 19 text
+unfoldable pub decimal_of : List ℕ → Parsed
+decimal_of text = number_of 10 19 text

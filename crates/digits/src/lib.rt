@@ -1,7 +1,7 @@
 // Numbers as the command line gives them: addresses in hexadecimal, 1 to 16 digits, with or without a leading 0x or 0X; counts in
 // decimal, 1 to 19 digits. Leading zeros do not count.
 ghost use Rattle.std.specs.Prelude.{◌≡◌, ◌≤◌, ◌^◌};
-ghost use Rattle.digits.specs.Digits.{digitOf, digitsOf, padding, number_of, isX, marked, hexOf, decimalOf};
+ghost use Rattle.digits.specs.Digits.{digit_of, digits_of, padding, number_of, is_x, marked, hex_of, decimal_of};
 
 #[derive(Drop)]
 pub enum Parsed {
@@ -11,7 +11,7 @@ pub enum Parsed {
 
 // The value of a digit, and 16 of a byte that is none.
 fn digit_of(byte: u8) -> u64
-    ensures { result ≡ digitOf byte }
+    ensures { result ≡ digit_of byte }
 {
     match byte {
         b'0'..=b'9' => byte as u64 - 48,
@@ -24,7 +24,7 @@ fn digit_of(byte: u8) -> u64
 // The number that digits to a base make: so few of them that no sum wraps.
 fn digits_of(text: &[u8], base: u64, most: usize) -> Parsed
     requires { (2 ≤ base) × (base ^ most ≤ 2 ^ 64) }
-    ensures { result ≡ digitsOf base most text.now }
+    ensures { result ≡ digits_of base most text.now }
 {
     if text.len() < 1 {
         return Parsed::Wrong;
@@ -69,7 +69,7 @@ fn number_of(text: &[u8], base: u64, most: usize) -> Parsed
 }
 
 fn is_x(byte: u8) -> bool
-    ensures { result ≡ isX byte }
+    ensures { result ≡ is_x byte }
 {
     if byte == b'x' {
         return true;
@@ -92,7 +92,7 @@ fn is_marked(text: &[u8]) -> bool
 
 // The hexadecimal number that text says.
 pub fn parse(text: &[u8]) -> Parsed
-    ensures { result ≡ hexOf text.now }
+    ensures { result ≡ hex_of text.now }
 {
     if is_marked(text) {
         return number_of(&text[2..], 16, 16);
@@ -102,7 +102,7 @@ pub fn parse(text: &[u8]) -> Parsed
 
 // The decimal number that text says.
 pub fn parse_decimal(text: &[u8]) -> Parsed
-    ensures { result ≡ decimalOf text.now }
+    ensures { result ≡ decimal_of text.now }
 {
     number_of(text, 10, 19)
 }

@@ -5,11 +5,11 @@ use Prim.Native.Nat.{ℕ}
 use lib.IntN.{ℤ}
 use lib.Signed.{◌≤ℤ◌, le_z}
 use Rattle.lookup.specs.Cases.{NoneCovers}
-use Rattle.lookup.proofs.CoveringLaws.{by_value, le-shows}
+use Rattle.lookup.proofs.CoveringLaws.{by_value, le_shows}
 use Rattle.explain.specs.Why.{NearestBelow, NearestAbove, Behind, Before, Between}
 use Rattle.explain.specs.declared.why.Nearest.{Nearest}
 use Rattle.explain.specs.declared.why.Nearest.TheVariants.{Covered, Nothing}
-use Rattle.explain.proofs.WholeLaws.{not-le, less-at-most}
+use Rattle.explain.proofs.WholeLaws.{not_le, less_at_most}
 
 module _ (s : List ℕ) (d : ℤ) where
   up_to : (below : Nearest) → NearestBelow s d below → (z : ℤ) → Behind below z → z ≤ℤ d → NoneCovers s z
@@ -24,5 +24,5 @@ module _ (s : List ℕ) (d : ℤ) where
   pub between_none : (below above : Nearest) → NearestBelow s d below → NearestAbove s d above → (z : ℤ) → Between below above z → NoneCovers s z
   between_none below above near far z (behind, before) =
       by_value (le_z z d)
-      (λ e. up_to below near z behind ((le-shows z d).holds e))
-      (λ e. from_on above far z before (less-at-most (not-le ((le-shows z d).broken e))))
+      (λ e. up_to below near z behind ((le_shows z d).holds e))
+      (λ e. from_on above far z before (less_at_most (not_le ((le_shows z d).broken e))))

@@ -4,7 +4,7 @@ use mathlib.Core.Path.{◌≡◌, refl, sym, ◌∙◌, ap}
 use Prim.Native.Nat.{ℕ, zero, suc, ◌+◌, ◌-◌, ◌≤◌, ◌<◌}
 use native.Mathlib.Numerals.{add-one}
 use native.Mathlib.Omega.{arith}
-use Rattle.explain.specs.computed.Each.{each}
+use Rattle.explain.specs.Computed.Each.{each}
 
 module _ {A : Type 0} (turn : A → ℕ → A) where
   on-at : (left n i : ℕ) (known : A) → n - i ≡ suc left → n - suc i ≡ left
@@ -22,15 +22,15 @@ module _ {A : Type 0} (turn : A → ℕ → A) where
 
   -- a loop that makes each turn: what is left comes to the whole
 
-  pub each-begins : (n : ℕ) {known first : A} → known ≡ first → each turn (n - 0) 0 known ≡ each turn n 0 first
-  each-begins n {known} {first} e = let all : n - 0 ≡ n = omega arith in ap (λ m. each turn m 0 known) all ∙ ap (each turn n 0) e
+  pub each_begins : (n : ℕ) {known first : A} → known ≡ first → each turn (n - 0) 0 known ≡ each turn n 0 first
+  each_begins n {known} {first} e = let all : n - 0 ≡ n = omega arith in ap (λ m. each turn m 0 known) all ∙ ap (each turn n 0) e
 
   pub each_next : (n i : ℕ) {known next whole : A} → i < n → next ≡ turn known i → each turn (n - i) i known ≡ whole
       → each turn (n - (i + 1)) (i + 1) next ≡ whole
   each_next n i {known} lt e so_far = ap (each turn (n - (i + 1)) (i + 1)) e ∙ sym (each_on n i known lt) ∙ so_far
 
-  pub each-ends : (n i : ℕ) {known whole : A} → n ≤ i → each turn (n - i) i known ≡ whole → known ≡ whole
-  each-ends n i {known} le so_far = sym (each-end n i known le) ∙ so_far
+  pub each_ends : (n i : ℕ) {known whole : A} → n ≤ i → each turn (n - i) i known ≡ whole → known ≡ whole
+  each_ends n i {known} le so_far = sym (each-end n i known le) ∙ so_far
 
   -- what holds at first, and passes from one turn to the next, holds after all of them
 

@@ -7,18 +7,18 @@ use Prim.Native.Nat.{ℕ, ◌-◌, ◌^◌}
 use lib.IntN.{ℤ, pos, negsuc}
 use lib.ListN.{take, replicate, set}
 use Rattle.numbers.specs.declared.field.Order.TheVariants.{Little}
-use Rattle.section.specs.SectionS.{sectionS, overlappingS, unsortedS, at_entry, withFrame}
-use Rattle.section.specs.Shape.{aarch64Shape}
+use Rattle.section.specs.SectionS.{section_s, overlapping_s, unsorted_s, at_entry, with_frame}
+use Rattle.section.specs.Shape.{aarch64_shape}
 use Rattle.section.specs.declared.row.Base.TheVariants.{Sp}
 use Rattle.section.specs.declared.row.Place.TheVariants.{Register}
 use Rattle.section.specs.declared.row.Row.{Row}
 use Rattle.caller.specs.declared.registers.Process.{Process}
 use Rattle.caller.specs.declared.registers.Registers.{Registers}
-use Rattle.explain.specs.computed.Coverers.{noCoverers}
-use Rattle.explain.specs.computed.Lookup.{lookupWhy}
-use Rattle.explain.specs.computed.Step.{fromRowWhy, stepWhy}
-use Rattle.explain.specs.computed.Sum.{sum_of}
-use Rattle.explain.specs.inner.Opened.{explainOpened}
+use Rattle.explain.specs.Computed.Coverers.{no_coverers}
+use Rattle.explain.specs.Computed.Lookup.{lookup_why}
+use Rattle.explain.specs.Computed.Step.{from_row_why, step_why}
+use Rattle.explain.specs.Computed.Sum.{sum_of}
+use Rattle.explain.specs.Inner.Opened.{explain_opened}
 use Rattle.explain.specs.declared.sums.Sum.{Sum}
 use Rattle.explain.specs.declared.sums.Sum.TheVariants.{At, Below, Above}
 use Rattle.explain.specs.declared.why.FoundRow.{FoundRow}
@@ -41,7 +41,7 @@ use Rattle.explain.specs.declared.why.StepWhy.{StepWhy}
 -- ---- lookups, "Loaded at 0x400000"
 
 accepted : Looked → LookupWhy
-accepted why = record { reason = lookup.Accepted why; coverers = noCoverers }
+accepted why = record { reason = lookup.Accepted why; coverers = no_coverers }
 
 found : Row → ℕ → ℕ → ℕ → RowStart → FoundRow
 found row function number offset next = record { row = row; function = function; number = number; offset = offset; next = next }
@@ -52,34 +52,34 @@ at by function = Covered (record { by = by }) function
 -- S with function 0 having its row 1 alone, which starts at 4; with function 0 being two repeated blocks of 16 bytes; and with function 0
 -- empty
 late : List ℕ
-late = set (set (set sectionS 36 0x03) 40 0x01) 12 0x02
+late = set (set (set section_s 36 0x03) 40 0x01) 12 0x02
 
 blocks : List ℕ
-blocks = set (set sectionS 44 0x10) 45 0x10
+blocks = set (set section_s 44 0x10) 45 0x10
 
 empty : List ℕ
-empty = set sectionS 32 0x00
+empty = set section_s 32 0x00
 
 lookups : List (LookupWhy × LookupWhy)
 lookups =
-    (lookupWhy sectionS 0x400000 0x401003, accepted (Found (found at_entry 0 0 3 (Is 4))))
-    ∷ (lookupWhy sectionS 0x400000 0x40101f, accepted (Found (found withFrame 0 1 31 Missing)))
-    ∷ (lookupWhy blocks 0x400000 0x401013, accepted (Found (found at_entry 0 0 3 (Is 4))))
-    ∷ (lookupWhy sectionS 0x400000 0x400fff, accepted (NotFound (NoFunction Nothing (at (pos 0x1000) 0))))
-    ∷ (lookupWhy sectionS 0x400000 0x401030, accepted (NotFound (NoFunction (at (pos 0x101f) 0) (at (pos 0x1040) 1))))
-    ∷ (lookupWhy sectionS 0x400000 0x401050, accepted (NotFound (NoFunction (at (pos 0x104f) 1) Nothing)))
-    ∷ (lookupWhy empty 0x400000 0x401000, accepted (NotFound (NoFunction Nothing (at (pos 0x1040) 1))))
+    (lookup_why section_s 0x400000 0x401003, accepted (Found (found at_entry 0 0 3 (Is 4))))
+    ∷ (lookup_why section_s 0x400000 0x40101f, accepted (Found (found with_frame 0 1 31 Missing)))
+    ∷ (lookup_why blocks 0x400000 0x401013, accepted (Found (found at_entry 0 0 3 (Is 4))))
+    ∷ (lookup_why section_s 0x400000 0x400fff, accepted (NotFound (NoFunction Nothing (at (pos 0x1000) 0))))
+    ∷ (lookup_why section_s 0x400000 0x401030, accepted (NotFound (NoFunction (at (pos 0x101f) 0) (at (pos 0x1040) 1))))
+    ∷ (lookup_why section_s 0x400000 0x401050, accepted (NotFound (NoFunction (at (pos 0x104f) 1) Nothing)))
+    ∷ (lookup_why empty 0x400000 0x401000, accepted (NotFound (NoFunction Nothing (at (pos 0x1040) 1))))
     ∷ (
-      lookupWhy unsortedS 0x400000 0x40101f,
+      lookup_why unsorted_s 0x400000 0x40101f,
       record { reason = lookup.Accepted (NotFound Dispute); coverers = record { count = 2; indexes = 0 ∷ 1 ∷ replicate 14 0 } },
     )
-    ∷ (lookupWhy late 0x400000 0x401003, accepted (NotFound (NoRow 0 3 (Is 4))))
-    ∷ (lookupWhy (take 77 sectionS) 0x400000 0x401003, record { reason = lookup.Unsound 8 0; coverers = noCoverers })
+    ∷ (lookup_why late 0x400000 0x401003, accepted (NotFound (NoRow 0 3 (Is 4))))
+    ∷ (lookup_why (take 77 section_s) 0x400000 0x401003, record { reason = lookup.Unsound 8 0; coverers = no_coverers })
     ∷ []
 
-lookups-are : map (λ pair. pair.0) lookups ≡ map (λ pair. pair.1) lookups
-unfolding explainOpened lookups accepted found at late blocks empty sectionS overlappingS unsortedS at_entry withFrame
-lookups-are = refl
+lookups_are : map (λ pair. pair.0) lookups ≡ map (λ pair. pair.1) lookups
+unfolding explain_opened lookups accepted found at late blocks empty section_s overlapping_s unsorted_s at_entry with_frame
+lookups_are = refl
 
 -- ---- steps: K10, K12, and one of each other reason
 
@@ -99,34 +99,34 @@ from : ℕ → ℕ → Registers
 from pc first = record { pc = pc; sp = 0x7000; fp = 0x7030; lr = 0; first = first }
 
 unlooked : StepReason → StepWhy
-unlooked why = record { reason = why; coverers = noCoverers }
+unlooked why = record { reason = why; coverers = no_coverers }
 
 steps : List (StepWhy × StepWhy)
 steps =
-    (stepWhy sectionS stack loaded start, unlooked (step.FromRow (found at_entry 1 0 4 Missing) (Caller second 0x7008 0x401008) 0x401044))
+    (step_why section_s stack loaded start, unlooked (step.FromRow (found at_entry 1 0 4 Missing) (Caller second 0x7008 0x401008) 0x401044))
     ∷ (
-      stepWhy sectionS (take 63 stack) loaded second,
+      step_why section_s (take 63 stack) loaded second,
       unlooked
-          (step.FromRow (found withFrame 0 1 7 Missing) (WordOutside Ra 0x7040 (record { by = negsuc 7 }) 0x7000 63) 0x401007),
+          (step.FromRow (found with_frame 0 1 7 Missing) (WordOutside Ra 0x7040 (record { by = negsuc 7 }) 0x7000 63) 0x401007),
     )
     ∷ (
-      stepWhy sectionS stack loaded (record { pc = 0x401005; sp = 0x7008; fp = 0x6ff8; lr = 0; first = 0 }),
-      unlooked (step.FromRow (found withFrame 0 1 4 Missing) (CfaLow 0x7008 0x7008 0) 0x401004),
+      step_why section_s stack loaded (record { pc = 0x401005; sp = 0x7008; fp = 0x6ff8; lr = 0; first = 0 }),
+      unlooked (step.FromRow (found with_frame 0 1 4 Missing) (CfaLow 0x7008 0x7008 0) 0x401004),
     )
     ∷ (
-      stepWhy sectionS stack loaded (record { pc = 0x401004; sp = 0; fp = 2 ^ 64 - 8; lr = 0; first = 1 }),
-      unlooked (step.FromRow (found withFrame 0 1 4 Missing) (CfaOutside (2 ^ 64 - 8) (record { by = pos 16 })) 0x401004),
+      step_why section_s stack loaded (record { pc = 0x401004; sp = 0; fp = 2 ^ 64 - 8; lr = 0; first = 1 }),
+      unlooked (step.FromRow (found with_frame 0 1 4 Missing) (CfaOutside (2 ^ 64 - 8) (record { by = pos 16 })) 0x401004),
     )
-    ∷ (stepWhy sectionS stack loaded (from 0x401040 0), unlooked (step.NotFound 0x40103f (NoFunction (at (pos 0x101f) 0) (at (pos 0x1040) 1))))
-    ∷ (stepWhy late stack loaded (from 0x401004 0), unlooked (step.NotFound 0x401003 (NoRow 0 3 (Is 4))))
-    ∷ (stepWhy sectionS stack loaded (from 0 0), unlooked step.NothingAsked)
-    ∷ (stepWhy (take 77 sectionS) stack loaded start, unlooked (step.Unsound 8 0))
-    ∷ (stepWhy sectionS stack (record { section = 0x400000; stack = 2 ^ 64 - 63; mask = 0 }) start, unlooked (step.Window (2 ^ 64 - 63) 64))
+    ∷ (step_why section_s stack loaded (from 0x401040 0), unlooked (step.NotFound 0x40103f (NoFunction (at (pos 0x101f) 0) (at (pos 0x1040) 1))))
+    ∷ (step_why late stack loaded (from 0x401004 0), unlooked (step.NotFound 0x401003 (NoRow 0 3 (Is 4))))
+    ∷ (step_why section_s stack loaded (from 0 0), unlooked step.NothingAsked)
+    ∷ (step_why (take 77 section_s) stack loaded start, unlooked (step.Unsound 8 0))
+    ∷ (step_why section_s stack (record { section = 0x400000; stack = 2 ^ 64 - 63; mask = 0 }) start, unlooked (step.Window (2 ^ 64 - 63) 64))
     ∷ []
 
-steps-are : map (λ pair. pair.0) steps ≡ map (λ pair. pair.1) steps
-unfolding explainOpened steps found at late unlooked stack loaded start second from sectionS at_entry withFrame
-steps-are = refl
+steps_are : map (λ pair. pair.0) steps ≡ map (λ pair. pair.1) steps
+unfolding explain_opened steps found at late unlooked stack loaded start second from section_s at_entry with_frame
+steps_are = refl
 
 -- rows of AArch64 with one offset: 24, 27, and a caller by LR with the bits of the mask cleared
 leaf : Bool → ℤ → Row
@@ -137,16 +137,16 @@ marked = record { pc = 0x401000; sp = 0x7000; fp = 0x7030; lr = 0x35000000401009
 
 rows : List (RowReason × RowReason)
 rows =
-    (fromRowWhy (aarch64Shape Little) stack loaded marked (leaf true (pos 0)), Signed true 0)
-    ∷ (fromRowWhy (aarch64Shape Little) stack loaded (from 0x401001 0) (leaf false (pos 16)), RaLost 0)
+    (from_row_why (aarch64_shape Little) stack loaded marked (leaf true (pos 0)), Signed true 0)
+    ∷ (from_row_why (aarch64_shape Little) stack loaded (from 0x401001 0) (leaf false (pos 16)), RaLost 0)
     ∷ (
-      fromRowWhy (aarch64Shape Little) stack (record { section = 0; stack = 0x7000; mask = 0xff7f000000000000 }) marked (leaf true (pos 0)),
+      from_row_why (aarch64_shape Little) stack (record { section = 0; stack = 0x7000; mask = 0xff7f000000000000 }) marked (leaf true (pos 0)),
       Caller (record { pc = 0x401009; sp = 0x7000; fp = 0x7030; lr = 0x35000000401009; first = 0 }) 0x7000 0x35000000401009,
     )
     ∷ []
 
 rows_are : map (λ pair. pair.0) rows ≡ map (λ pair. pair.1) rows
-unfolding explainOpened rows leaf marked from stack loaded
+unfolding explain_opened rows leaf marked from stack loaded
 rows_are = refl
 
 -- ---- sums
@@ -160,6 +160,6 @@ sums =
     ∷ (sum_of (2 ^ 64 - 8) (pos 16), Above 9)
     ∷ []
 
-sums-are : map (λ pair. pair.0) sums ≡ map (λ pair. pair.1) sums
-unfolding explainOpened sums
-sums-are = refl
+sums_are : map (λ pair. pair.0) sums ≡ map (λ pair. pair.1) sums
+unfolding explain_opened sums
+sums_are = refl

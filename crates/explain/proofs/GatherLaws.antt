@@ -12,15 +12,15 @@ use lib.IntN.{ℤ}
 use lib.ListN.{length, get_or, set, length-set, length-replicate}
 use lib.Seq.{get_or-set_same, get_or-set_other}
 use borrow.Author.Tests.{lt-ltb, ltb-true, ltb-false, eq-eqb, ne_eqb}
-use Rattle.section.specs.Meaning.{functionIn}
-use Rattle.accept.specs.Rules.{functionCount}
+use Rattle.section.specs.Meaning.{function_in}
+use Rattle.accept.specs.Rules.{function_count}
 use Rattle.lookup.specs.Cases.{Covers}
-use Rattle.lookup.specs.computed.Covering.{covers}
+use Rattle.lookup.specs.Computed.Covering.{covers}
 use Rattle.lookup.proofs.CoveringLaws.{by_value}
 use Rattle.explain.specs.Why.{AllCovering}
-use Rattle.explain.specs.computed.Coverers.{noCoverers, placed, withIndex, withIf, coverersIn}
+use Rattle.explain.specs.Computed.Coverers.{no_coverers, placed, with_index, with_if, coverers_in}
 use Rattle.explain.specs.declared.why.Coverers.{Coverers}
-use Rattle.explain.proofs.CoversLaws.{cover-tests, tests-cover}
+use Rattle.explain.proofs.CoversLaws.{cover_tests, tests_cover}
 use Rattle.explain.proofs.EachLaws.{each_holds}
 
 -- ---- the first sixteen
@@ -54,8 +54,8 @@ record Gathered (test : ℕ → Bool) (n : ℕ) (known : Coverers) : Type 0 wher
   room : length known.indexes ≡ 16
 
 module _ (test : ℕ → Bool) where
-  begun : Gathered test 0 noCoverers
-  unfolding noCoverers
+  begun : Gathered test 0 no_coverers
+  unfolding no_coverers
   begun =
       record {
         nth = λ k. k;
@@ -104,8 +104,8 @@ module _ (test : ℕ → Bool) where
         let le : k ≤ known.count = omega arith in
         ⊎_elim (λ same. rw same last) (before k) (eq-or-lt_of_le le)
 
-    taken : test n ≡ true → Gathered test (suc n) (withIndex known n)
-    unfolding withIndex
+    taken : test n ≡ true → Gathered test (suc n) (with_index known n)
+    unfolding with_index
     taken set =
         record {
           nth = nth-now;
@@ -128,23 +128,23 @@ module _ (test : ℕ → Bool) where
           room = placed-room known.indexes h.room known.count n;
         }
 
-    turn : Gathered test (suc n) (withIf (test n) n known)
-    unfolding withIf
+    turn : Gathered test (suc n) (with_if (test n) n known)
+    unfolding with_if
     turn = by_value (test n) (λ e. rw e (taken e)) (λ e. rw e (passed e))
 
 -- ---- the functions that cover
 
-pub all-covering : (s : List ℕ) (d : ℤ) → AllCovering s d (coverersIn s d)
-unfolding coverersIn functionCount
-all-covering s d =
+pub all_covering : (s : List ℕ) (d : ℤ) → AllCovering s d (coverers_in s d)
+unfolding coverers_in function_count
+all_covering s d =
     let all =
-    each_holds (λ known i. withIf (covers d (functionIn s i)) i known) (Gathered (λ i. covers d (functionIn s i))) (functionCount s) noCoverers
-    (λ n known lt h. turn (λ i. covers d (functionIn s i)) n known h) (begun (λ i. covers d (functionIn s i))) in
+    each_holds (λ known i. with_if (covers d (function_in s i)) i known) (Gathered (λ i. covers d (function_in s i))) (function_count s) no_coverers
+    (λ n known lt h. turn (λ i. covers d (function_in s i)) n known h) (begun (λ i. covers d (function_in s i))) in
     record {
       nth = all.nth;
-      covers = λ k lt. tests-cover s d (all.nth k) (all.below k lt) (all.tested k lt);
+      covers = λ k lt. tests_cover s d (all.nth k) (all.below k lt) (all.tested k lt);
       rises = all.rises;
-      every = λ i here. all.every i here.0 (cover-tests s d i here);
+      every = λ i here. all.every i here.0 (cover_tests s d i here);
       shown = all.shown;
     }
 
@@ -155,17 +155,17 @@ module _ (s : List ℕ) (d : ℤ) (coverers : Coverers) (all : AllCovering s d c
   told k = get_or coverers.indexes k 0
 
   -- each covers
-  pub told-cover : (k : ℕ) → k < 16 → k < coverers.count → Covers s d (told k)
-  told-cover k small lt = rw (all.shown k small lt) (all.covers k lt)
+  pub told_cover : (k : ℕ) → k < 16 → k < coverers.count → Covers s d (told k)
+  told_cover k small lt = rw (all.shown k small lt) (all.covers k lt)
 
   -- they rise
-  pub told-rise : (j k : ℕ) → j < k → k < 16 → k < coverers.count → told j < told k
-  told-rise j k less small lt = rw (all.shown k small lt, all.shown j (omega arith) (omega arith)) (all.rises j k less lt)
+  pub told_rise : (j k : ℕ) → j < k → k < 16 → k < coverers.count → told j < told k
+  told_rise j k less small lt = rw (all.shown k small lt, all.shown j (omega arith) (omega arith)) (all.rises j k less lt)
 
   -- every covering function is among them, or past the sixteenth
-  pub told-or-past : (i : ℕ) → Covers s d i
+  pub told_or_past : (i : ℕ) → Covers s d i
       → ((k : ℕ) × (k < 16) × (k < coverers.count) × (told k ≡ i)) ⊎ ((16 < coverers.count) × (told 15 < i))
-  told-or-past i here =
+  told_or_past i here =
       let (k, lt, is) = all.every i here in
       by_value (ltb k 16)
       (λ e. let small : k < 16 = ltb-true k 16 e in inl (k, small, lt, all.shown k small lt ∙ is))

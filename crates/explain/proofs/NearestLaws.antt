@@ -12,21 +12,21 @@ use lib.Dec.{eqb}
 use lib.IntN.{ℤ, pos, ◌+ℤ◌}
 use lib.Signed.{◌≤ℤ◌, ◌<ℤ◌, ≤ℤ_refl, <ℤ-≤ℤ_trans}
 use borrow.Author.Tests.{eqb-true, eqb-false}
-use Rattle.numbers.proofs.DiffLaws.{Diff, diff-pos, diff-add, diff-neg}
-use Rattle.section.specs.Meaning.{entryIn, functionStart}
-use Rattle.accept.specs.Rules.{functionCount}
+use Rattle.numbers.proofs.DiffLaws.{Diff, diff_pos, diff_add, diff_neg}
+use Rattle.section.specs.Meaning.{entry_in, function_start}
+use Rattle.accept.specs.Rules.{function_count}
 use Rattle.accept.proofs.Decides.{Shows}
 use Rattle.lookup.specs.Cases.{Covers, NoneCovers}
-use Rattle.lookup.proofs.CoveringLaws.{by_value, le-shows, lt-shows}
+use Rattle.lookup.proofs.CoveringLaws.{by_value, le_shows, lt_shows}
 use Rattle.explain.specs.Why.{NearestBelow, NearestAbove}
-use Rattle.explain.specs.computed.Nearest.{edge_of, onSide, isNearer, tried, nearestIn}
+use Rattle.explain.specs.Computed.Nearest.{edge_of, on_side, is_nearer, tried, nearest_in}
 use Rattle.explain.specs.declared.nearby.Side.{Side}
 use Rattle.explain.specs.declared.nearby.Side.TheVariants.{Below, Above}
 use Rattle.explain.specs.declared.why.Nearest.{Nearest}
 use Rattle.explain.specs.declared.why.Nearest.TheVariants.{Covered, Nothing}
 use Rattle.explain.proofs.EachLaws.{each_holds}
-use Rattle.explain.proofs.KeyLaws.{tried-nearer, tried-farther, tried-elsewhere, tried-empty}
-use Rattle.explain.proofs.WholeLaws.{Split, split, le_of, of_le, lt_of, of_lt, not-less, not-le}
+use Rattle.explain.proofs.KeyLaws.{tried_nearer, tried_farther, tried_elsewhere, tried_empty}
+use Rattle.explain.proofs.WholeLaws.{Split, split, le_of, of_le, lt_of, of_lt, not_less, not_le}
 
 -- ---- nearer, seen from d: below it the higher address, above it the lower
 
@@ -38,42 +38,42 @@ abbrev AsNear : Side → ℤ → ℤ → Type 0
 AsNear Below y z = z ≤ℤ y
 AsNear Above y z = y ≤ℤ z
 
-nearer-on : (side : Side) (x y z : ℤ) → Nearer side x y → AsNear side y z → Nearer side x z
-nearer-on Below x y z lt le =
+nearer_on : (side : Side) (x y z : ℤ) → Nearer side x y → AsNear side y z → Nearer side x z
+nearer_on Below x y z lt le =
     let a = (split x).diff in
     let b = (split y).diff in
     let c = (split z).diff in
     of_lt c a (omega (arith, lt_of b a lt, le_of c b le))
-nearer-on Above x y z lt le = <ℤ-≤ℤ_trans lt le
+nearer_on Above x y z lt le = <ℤ-≤ℤ_trans lt le
 
-not-both : (side : Side) (y z : ℤ) → Nearer side y z → ¬ AsNear side z y
-not-both Below y z lt le = omega (arith, lt_of (split z).diff (split y).diff lt, le_of (split y).diff (split z).diff le)
-not-both Above y z lt le = omega (arith, lt_of (split y).diff (split z).diff lt, le_of (split z).diff (split y).diff le)
+not_both : (side : Side) (y z : ℤ) → Nearer side y z → ¬ AsNear side z y
+not_both Below y z lt le = omega (arith, lt_of (split z).diff (split y).diff lt, le_of (split y).diff (split z).diff le)
+not_both Above y z lt le = omega (arith, lt_of (split y).diff (split z).diff lt, le_of (split z).diff (split y).diff le)
 
-nearer-as : (side : Side) (y z : ℤ) → Nearer side y z → AsNear side y z
-nearer-as Below y z lt = of_le (split z).diff (split y).diff (omega (arith, lt_of (split z).diff (split y).diff lt))
-nearer-as Above y z lt = of_le (split y).diff (split z).diff (omega (arith, lt_of (split y).diff (split z).diff lt))
+nearer_as : (side : Side) (y z : ℤ) → Nearer side y z → AsNear side y z
+nearer_as Below y z lt = of_le (split z).diff (split y).diff (omega (arith, lt_of (split z).diff (split y).diff lt))
+nearer_as Above y z lt = of_le (split y).diff (split z).diff (omega (arith, lt_of (split y).diff (split z).diff lt))
 
-as-near-itself : (side : Side) (z : ℤ) → AsNear side z z
-as-near-itself Below z = ≤ℤ_refl z
-as-near-itself Above z = ≤ℤ_refl z
+as_near_itself : (side : Side) (z : ℤ) → AsNear side z z
+as_near_itself Below z = ≤ℤ_refl z
+as_near_itself Above z = ≤ℤ_refl z
 
 -- as near as one that is as near as a third
-as-near-on : (side : Side) (x y z : ℤ) → AsNear side x y → AsNear side y z → AsNear side x z
-as-near-on Below x y z p q =
+as_near_on : (side : Side) (x y z : ℤ) → AsNear side x y → AsNear side y z → AsNear side x z
+as_near_on Below x y z p q =
     let a = (split x).diff in
     let b = (split y).diff in
     let c = (split z).diff in
     of_le c a (omega (arith, le_of b a p, le_of c b q))
-as-near-on Above x y z p q =
+as_near_on Above x y z p q =
     let a = (split x).diff in
     let b = (split y).diff in
     let c = (split z).diff in
     of_le a c (omega (arith, le_of a b p, le_of b c q))
 
-not-nearer : (side : Side) (y z : ℤ) → ¬ Nearer side y z → AsNear side z y
-not-nearer Below y z far = not-less far
-not-nearer Above y z far = not-less far
+not_nearer : (side : Side) (y z : ℤ) → ¬ Nearer side y z → AsNear side z y
+not_nearer Below y z far = not_less far
+not_nearer Above y z far = not_less far
 
 -- ---- the tests
 
@@ -81,33 +81,33 @@ abbrev OnSide : Side → ℤ → ℤ → ℕ → Type 0
 OnSide Below d start size = (start +ℤ pos size) ≤ℤ d
 OnSide Above d start size = d <ℤ start
 
-side-shows : (side : Side) (d start : ℤ) (size : ℕ) → Shows (onSide side d start size) (OnSide side d start size)
-unfolding onSide
-side-shows Below d start size = le-shows (start +ℤ pos size) d
-side-shows Above d start size = lt-shows d start
+side_shows : (side : Side) (d start : ℤ) (size : ℕ) → Shows (on_side side d start size) (OnSide side d start size)
+unfolding on_side
+side_shows Below d start size = le_shows (start +ℤ pos size) d
+side_shows Above d start size = lt_shows d start
 
 -- the one known, if there is one, is farther
 abbrev Beats : Side → ℤ → Nearest → Type 0
 Beats side z Nothing = Unit {0}
 Beats side z (Covered offset i) = Nearer side z offset.by
 
-beats-shows : (side : Side) (z : ℤ) (known : Nearest) → Shows (isNearer side z known) (Beats side z known)
-unfolding isNearer
-beats-shows Below z Nothing = record { holds = λ e. tt; broken = λ e h. true≢false e }
-beats-shows Above z Nothing = record { holds = λ e. tt; broken = λ e h. true≢false e }
-beats-shows Below z (Covered offset i) = lt-shows offset.by z
-beats-shows Above z (Covered offset i) = lt-shows z offset.by
+beats_shows : (side : Side) (z : ℤ) (known : Nearest) → Shows (is_nearer side z known) (Beats side z known)
+unfolding is_nearer
+beats_shows Below z Nothing = record { holds = λ e. tt; broken = λ e h. true≢false e }
+beats_shows Above z Nothing = record { holds = λ e. tt; broken = λ e h. true≢false e }
+beats_shows Below z (Covered offset i) = lt_shows offset.by z
+beats_shows Above z (Covered offset i) = lt_shows z offset.by
 
 module _ (s : List ℕ) (d : ℤ) (side : Side) where
   abbrev size : ℕ → ℕ
-  size j = (entryIn s j).size
+  size j = (entry_in s j).size
 
   abbrev edge : ℕ → ℤ
-  edge j = edge_of side (functionStart s j) (size j)
+  edge j = edge_of side (function_start s j) (size j)
 
   -- function j is not empty, and lies on that side
   abbrev Candidate : ℕ → Type 0
-  Candidate j = (¬ (size j ≡ 0)) × OnSide side d (functionStart s j) (size j)
+  Candidate j = (¬ (size j ≡ 0)) × OnSide side d (function_start s j) (size j)
 
   -- ---- of the first n functions
 
@@ -131,52 +131,52 @@ module _ (s : List ℕ) (d : ℤ) (side : Side) where
     more Nothing h beaten = up_to h (λ candidate. beaten candidate tt)
     more (Covered offset i) h beaten =
         let (lt, here, is, nearest, lower) = h in
-        (omega arith, here, is, up_to nearest (λ candidate. not-nearer side (edge n) offset.by (beaten candidate)), lower)
+        (omega arith, here, is, up_to nearest (λ candidate. not_nearer side (edge n) offset.by (beaten candidate)), lower)
 
     taken : (known : Nearest) → SoFar n known → Candidate n → Beats side (edge n) known → SoFar (suc n) (Covered (record { by = edge n }) n)
     taken Nothing none candidate beats = (
       omega arith,
       candidate,
       refl,
-      up_to (λ j lt other. absurd (none j lt other)) (λ other. as-near-itself side (edge n)),
+      up_to (λ j lt other. absurd (none j lt other)) (λ other. as_near_itself side (edge n)),
       λ j lt other. absurd (none j lt other),
     )
     taken (Covered offset i) h candidate beats =
         let (lt, here, is, nearest, lower) = h in
         let farther : (j : ℕ) → j < n → Candidate j → Nearer side (edge n) (edge j) = λ j less other.
-        nearer-on side (edge n) offset.by (edge j) beats (nearest j less other) in (
+        nearer_on side (edge n) offset.by (edge j) beats (nearest j less other) in (
           omega arith,
           candidate,
           refl,
-          up_to (λ j less other. nearer-as side (edge n) (edge j) (farther j less other)) (λ other. as-near-itself side (edge n)),
+          up_to (λ j less other. nearer_as side (edge n) (edge j) (farther j less other)) (λ other. as_near_itself side (edge n)),
           farther,
         )
 
-    turn : (known : Nearest) → SoFar n known → SoFar (suc n) (tried side d (functionStart s n) (size n) n known)
+    turn : (known : Nearest) → SoFar n known → SoFar (suc n) (tried side d (function_start s n) (size n) n known)
     turn known h =
-        let there = side-shows side d (functionStart s n) (size n) in
-        let nearer = beats-shows side (edge n) known in
+        let there = side_shows side d (function_start s n) (size n) in
+        let nearer = beats_shows side (edge n) known in
         by_value (eqb (size n) 0)
         (λ e.
         let none = eqb-true (size n) 0 e in
-        rw (tried-empty side d (functionStart s n) (size n) n known none) (more known h (λ candidate. absurd (candidate.0 none))))
+        rw (tried_empty side d (function_start s n) (size n) n known none) (more known h (λ candidate. absurd (candidate.0 none))))
         (λ e.
         let some = eqb-false (size n) 0 e in
-        by_value (onSide side d (functionStart s n) (size n))
+        by_value (on_side side d (function_start s n) (size n))
         (λ on.
-        by_value (isNearer side (edge n) known)
+        by_value (is_nearer side (edge n) known)
         (λ yes.
-        rw (tried-nearer side d (functionStart s n) (size n) n known some on yes)
+        rw (tried_nearer side d (function_start s n) (size n) n known some on yes)
         (taken known h (some, there.holds on) (nearer.holds yes)))
         (λ away.
-        rw (tried-farther side d (functionStart s n) (size n) n known on away) (more known h (λ candidate. nearer.broken away))))
+        rw (tried_farther side d (function_start s n) (size n) n known on away) (more known h (λ candidate. nearer.broken away))))
         (λ off.
-        rw (tried-elsewhere side d (functionStart s n) (size n) n known off)
+        rw (tried_elsewhere side d (function_start s n) (size n) n known off)
         (more known h (λ candidate. absurd (there.broken off candidate.1)))))
 
-  so_far : SoFar (functionCount s) (nearestIn s side d)
-  unfolding nearestIn functionCount
-  so_far = each_holds _ SoFar (functionCount s) Nothing (λ n known lt h. turn n known h) (λ j lt. absurd (omega arith))
+  so_far : SoFar (function_count s) (nearest_in s side d)
+  unfolding nearest_in function_count
+  so_far = each_holds _ SoFar (function_count s) Nothing (λ n known lt h. turn n known h) (λ j lt. absurd (omega arith))
 
   -- ---- an address that is covered, on that side of d or at d, which is not
 
@@ -186,45 +186,45 @@ module _ (s : List ℕ) (d : ℤ) (side : Side) where
     unfolding edge_of
     reach z j beyond (inside, from, before) = by_side side beyond
       where
-        start : Split (functionStart s j)
-        start = split (functionStart s j)
+        start : Split (function_start s j)
+        start = split (function_start s j)
 
-        end : Diff (functionStart s j +ℤ pos (size j)) (start.up + size j) (start.down + 0)
-        end = diff-add start.diff (diff-pos (size j))
+        end : Diff (function_start s j +ℤ pos (size j)) (start.up + size j) (start.down + 0)
+        end = diff_add start.diff (diff_pos (size j))
 
         some : ¬ (size j ≡ 0)
         some e = omega (arith, le_of start.diff (split z).diff from, lt_of (split z).diff end before)
 
         by_side : (side : Side) → AsNear side d z
-            → ((¬ (size j ≡ 0)) × OnSide side d (functionStart s j) (size j)) × AsNear side (edge_of side (functionStart s j) (size j)) z
+            → ((¬ (size j ≡ 0)) × OnSide side d (function_start s j) (size j)) × AsNear side (edge_of side (function_start s j) (size j)) z
         by_side Below le = (
-          (some, not-less (λ lt. none j (inside, of_le start.diff (split d).diff (omega (arith, le_of start.diff (split z).diff from, le_of (split z).diff (split d).diff le)), lt))),
-          of_le (split z).diff (diff-add end (diff-neg (diff-pos 1))) (omega (arith, lt_of (split z).diff end before)),
+          (some, not_less (λ lt. none j (inside, of_le start.diff (split d).diff (omega (arith, le_of start.diff (split z).diff from, le_of (split z).diff (split d).diff le)), lt))),
+          of_le (split z).diff (diff_add end (diff_neg (diff_pos 1))) (omega (arith, lt_of (split z).diff end before)),
         )
         by_side Above le = (
-          (some, not-le (λ early. none j (inside, early, of_lt (split d).diff end (omega (arith, le_of (split d).diff (split z).diff le, lt_of (split z).diff end before))))),
+          (some, not_le (λ early. none j (inside, early, of_lt (split d).diff end (omega (arith, le_of (split d).diff (split z).diff le, lt_of (split z).diff end before))))),
           from,
         )
 
     -- a candidate covers its own edge, which lies beyond d
-    covers-edge : (i : ℕ) → i < functionCount s → Candidate i → Covers s (edge i) i × Nearer side d (edge i)
+    covers-edge : (i : ℕ) → i < function_count s → Candidate i → Covers s (edge i) i × Nearer side d (edge i)
     unfolding edge_of
     covers-edge i inside (some, there) = by_side side there
       where
-        start : Split (functionStart s i)
-        start = split (functionStart s i)
+        start : Split (function_start s i)
+        start = split (function_start s i)
 
-        end : Diff (functionStart s i +ℤ pos (size i)) (start.up + size i) (start.down + 0)
-        end = diff-add start.diff (diff-pos (size i))
+        end : Diff (function_start s i +ℤ pos (size i)) (start.up + size i) (start.down + 0)
+        end = diff_add start.diff (diff_pos (size i))
 
-        by_side : (side : Side) → OnSide side d (functionStart s i) (size i)
-            → Covers s (edge_of side (functionStart s i) (size i)) i × Nearer side d (edge_of side (functionStart s i) (size i))
+        by_side : (side : Side) → OnSide side d (function_start s i) (size i)
+            → Covers s (edge_of side (function_start s i) (size i)) i × Nearer side d (edge_of side (function_start s i) (size i))
         by_side Below le =
-            let last = diff-add end (diff-neg (diff-pos 1)) in (
+            let last = diff_add end (diff_neg (diff_pos 1)) in (
               (inside, of_le start.diff last (omega arith), of_lt last end (omega arith)),
               of_lt last (split d).diff (omega (arith, le_of end (split d).diff le)),
             )
-        by_side Above lt = ((inside, ≤ℤ_refl (functionStart s i), of_lt start.diff end (omega arith)), lt)
+        by_side Above lt = ((inside, ≤ℤ_refl (function_start s i), of_lt start.diff end (omega arith)), lt)
 
     -- ---- the nearest of all, in the words of Why
 
@@ -236,7 +236,7 @@ module _ (s : List ℕ) (d : ℤ) (side : Side) where
         × ((j : ℕ) → Covers s offset.by j → i ≤ j)
     NearestOn Nothing = (z : ℤ) → AsNear side d z → NoneCovers s z
 
-    nearest-on : (known : Nearest) → SoFar (functionCount s) known → NearestOn known
+    nearest-on : (known : Nearest) → SoFar (function_count s) known → NearestOn known
     nearest-on Nothing h = λ z beyond j covered. h j covered.0 (reach z j beyond covered).0
     nearest-on (Covered offset i) h =
         let (lt, here, is, nearest, lower) = h in
@@ -245,25 +245,25 @@ module _ (s : List ℕ) (d : ℤ) (side : Side) where
           rw is beyond,
           λ z nearer past j other.
               let (candidate, edged) = reach z j past other in
-              not-both side z offset.by nearer
-              (as-near-on side offset.by (edge j) z (nearest j other.0 candidate) edged),
+              not_both side z offset.by nearer
+              (as_near_on side offset.by (edge j) z (nearest j other.0 candidate) edged),
           λ j other.
-              let (candidate, edged) = reach offset.by j (nearer-as side d offset.by (rw is beyond)) other in
-              let early : ¬ (j < i) = λ less. not-both side offset.by (edge j) (lower j less candidate) edged in
+              let (candidate, edged) = reach offset.by j (nearer_as side d offset.by (rw is beyond)) other in
+              let early : ¬ (j < i) = λ less. not_both side offset.by (edge j) (lower j less candidate) edged in
               omega arith,
         )
 
 -- ---- both sides
 
-pub nearest-below : (s : List ℕ) (d : ℤ) → NoneCovers s d → NearestBelow s d (nearestIn s Below d)
-nearest-below s d none = below (nearestIn s Below d) (nearest-on s d Below none (nearestIn s Below d) (so_far s d Below))
+pub nearest_below : (s : List ℕ) (d : ℤ) → NoneCovers s d → NearestBelow s d (nearest_in s Below d)
+nearest_below s d none = below (nearest_in s Below d) (nearest-on s d Below none (nearest_in s Below d) (so_far s d Below))
   where
     below : (known : Nearest) → NearestOn s d Below none known → NearestBelow s d known
     below (Covered offset i) h = h
     below Nothing h = h
 
-pub nearest-above : (s : List ℕ) (d : ℤ) → NoneCovers s d → NearestAbove s d (nearestIn s Above d)
-nearest-above s d none = above (nearestIn s Above d) (nearest-on s d Above none (nearestIn s Above d) (so_far s d Above))
+pub nearest_above : (s : List ℕ) (d : ℤ) → NoneCovers s d → NearestAbove s d (nearest_in s Above d)
+nearest_above s d none = above (nearest_in s Above d) (nearest-on s d Above none (nearest_in s Above d) (so_far s d Above))
   where
     above : (known : Nearest) → NearestOn s d Above none known → NearestAbove s d known
     above (Covered offset i) h = h

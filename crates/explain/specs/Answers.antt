@@ -1,9 +1,9 @@
 -- The answer that an explanation is of: of a lookup its outcome, and of a step the caller or the refusal with the old registers.
 use Rattle.std.specs.Prelude.{ℕ, get_or}
-use Rattle.lookup.specs.Numbers.{noFunction, dispute, no_row}
+use Rattle.lookup.specs.Numbers.{no_function, dispute, no_row}
 use Rattle.lookup.specs.declared.answer.Outcome.{Outcome}
 use Rattle.lookup.specs.declared.answer.Outcome.TheVariants as outcome
-use Rattle.caller.specs.Numbers.{unfound, signed, cfaOutside, cfaLow, raLost, wordOutside, numberOfRefusal, window, numberOfStepCause}
+use Rattle.caller.specs.Numbers.{unfound, signed, cfaOutside, cfaLow, raLost, wordOutside, number_of_refusal, window, number_of_step_cause}
 use Rattle.caller.specs.declared.registers.Registers.{Registers}
 use Rattle.caller.specs.declared.registers.Step.{Step}
 use Rattle.caller.specs.declared.registers.Step.TheVariants.{Caller, Unsound, Refused}
@@ -24,43 +24,43 @@ use Rattle.explain.specs.declared.why.StepWhy.{StepWhy}
 -- ---- a lookup
 
 -- of a dispute the two lowest, which are the first two that the explanation hands out
-unfoldable pub outcomeMissing : Coverers → NotFound → Outcome
-outcomeMissing coverers (missing.NoFunction below above) = outcome.NoFunction
-outcomeMissing coverers missing.Dispute = outcome.Dispute (get_or coverers.indexes 0 0) (get_or coverers.indexes 1 0)
-outcomeMissing coverers (missing.NoRow function offset first) = outcome.NoRow function
+unfoldable pub outcome_missing : Coverers → NotFound → Outcome
+outcome_missing coverers (missing.NoFunction below above) = outcome.NoFunction
+outcome_missing coverers missing.Dispute = outcome.Dispute (get_or coverers.indexes 0 0) (get_or coverers.indexes 1 0)
+outcome_missing coverers (missing.NoRow function offset first) = outcome.NoRow function
 
-unfoldable pub outcomeLooked : Coverers → Looked → Outcome
-outcomeLooked coverers (looked.Found found) = outcome.Found found.row found.function found.number
-outcomeLooked coverers (looked.NotFound why) = outcomeMissing coverers why
+unfoldable pub outcome_looked : Coverers → Looked → Outcome
+outcome_looked coverers (looked.Found found) = outcome.Found found.row found.function found.number
+outcome_looked coverers (looked.NotFound why) = outcome_missing coverers why
 
-unfoldable pub outcomeReason : Coverers → LookupReason → Outcome
-outcomeReason coverers (lookup.Unsound number index) = outcome.Unsound number index
-outcomeReason coverers (lookup.Accepted why) = outcomeLooked coverers why
+unfoldable pub outcome_reason : Coverers → LookupReason → Outcome
+outcome_reason coverers (lookup.Unsound number index) = outcome.Unsound number index
+outcome_reason coverers (lookup.Accepted why) = outcome_looked coverers why
 
-unfoldable pub outcomeWhy : LookupWhy → Outcome
-outcomeWhy why = outcomeReason why.coverers why.reason
+unfoldable pub outcome_why : LookupWhy → Outcome
+outcome_why why = outcome_reason why.coverers why.reason
 
 -- ---- a step
 
-unfoldable pub numberMissing : NotFound → ℕ
-numberMissing (missing.NoFunction below above) = numberOfRefusal (unfound noFunction)
-numberMissing missing.Dispute = numberOfRefusal (unfound dispute)
-numberMissing (missing.NoRow function offset first) = numberOfRefusal (unfound no_row)
+unfoldable pub number_missing : NotFound → ℕ
+number_missing (missing.NoFunction below above) = number_of_refusal (unfound no_function)
+number_missing missing.Dispute = number_of_refusal (unfound dispute)
+number_missing (missing.NoRow function offset first) = number_of_refusal (unfound no_row)
 
-unfoldable pub stepRow : Registers → RowReason → Step
-stepRow registers (row.Caller caller cfa ra) = Caller caller
-stepRow registers (row.Signed bit mask) = Refused registers (numberOfRefusal signed)
-stepRow registers (row.CfaOutside base offset) = Refused registers (numberOfRefusal cfaOutside)
-stepRow registers (row.CfaLow callersp sp first) = Refused registers (numberOfRefusal cfaLow)
-stepRow registers (row.RaLost first) = Refused registers (numberOfRefusal raLost)
-stepRow registers (row.WordOutside word cfa offset lies size) = Refused registers (numberOfRefusal wordOutside)
+unfoldable pub step_row : Registers → RowReason → Step
+step_row registers (row.Caller caller cfa ra) = Caller caller
+step_row registers (row.Signed bit mask) = Refused registers (number_of_refusal signed)
+step_row registers (row.CfaOutside base offset) = Refused registers (number_of_refusal cfaOutside)
+step_row registers (row.CfaLow callersp sp first) = Refused registers (number_of_refusal cfaLow)
+step_row registers (row.RaLost first) = Refused registers (number_of_refusal raLost)
+step_row registers (row.WordOutside word cfa offset lies size) = Refused registers (number_of_refusal wordOutside)
 
-unfoldable pub stepReason : Registers → StepReason → Step
-stepReason registers (step.Window lies size) = Refused registers (numberOfStepCause window)
-stepReason registers (step.Unsound number index) = Unsound registers number index
-stepReason registers step.NothingAsked = Refused registers (numberOfRefusal (unfound noFunction))
-stepReason registers (step.NotFound pc why) = Refused registers (numberMissing why)
-stepReason registers (step.FromRow found reason pc) = stepRow registers reason
+unfoldable pub step_reason : Registers → StepReason → Step
+step_reason registers (step.Window lies size) = Refused registers (number_of_step_cause window)
+step_reason registers (step.Unsound number index) = Unsound registers number index
+step_reason registers step.NothingAsked = Refused registers (number_of_refusal (unfound no_function))
+step_reason registers (step.NotFound pc why) = Refused registers (number_missing why)
+step_reason registers (step.FromRow found reason pc) = step_row registers reason
 
-unfoldable pub stepWhyAnswer : Registers → StepWhy → Step
-stepWhyAnswer registers why = stepReason registers why.reason
+unfoldable pub step_why_answer : Registers → StepWhy → Step
+step_why_answer registers why = step_reason registers why.reason

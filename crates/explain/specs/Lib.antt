@@ -1,4 +1,4 @@
 pub mod Answers
 pub mod Why
-pub mod computed
-pub mod inner
+pub mod Computed
+pub mod Inner

@@ -1,18 +1,18 @@
 -- Why an answer was given (SPECIFICATION 11.2 to 11.9): what holds of a section, a PC, a stack window, a process and registers where this
 -- is the explanation, as plain propositions in the numbers that it hands out. Nothing here says how they are looked for. That they hold is
--- `explained-holds`, and that they imply the answer `explained-implies`.
+-- `explained_holds`, and that they imply the answer `explained_implies`.
 use Rattle.std.specs.Prelude.{◌≡◌, Bool, true, List, ◌⊎◌, ℕ, ◌+◌, ◌-◌, ◌^◌, ◌≤◌, ◌<◌, ℤ, pos, ◌+ℤ◌, length, get_or, ◌≤ℤ◌, ◌<ℤ◌}
 use Rattle.numbers.specs.Start.{distance}
 use Rattle.numbers.specs.declared.offset.Offset.{Offset}
 use Rattle.section.specs.Meaning.{shape_of}
 use Rattle.section.specs.declared.row.Place.TheVariants.{Register, AtOffset}
 use Rattle.section.specs.declared.row.Row.{Row}
-use Rattle.accept.specs.Given.{Rule, numberOfRule}
+use Rattle.accept.specs.Given.{Rule, number_of_rule}
 use Rattle.accept.specs.Given as accept
-use Rattle.accept.specs.Rules.{Obeys, rowCount, rowStartAt}
-use Rattle.lookup.specs.Cases.{Covers, NoneCovers, OnlyCovers, OffsetIs, rowOfFunction}
+use Rattle.accept.specs.Rules.{Obeys, row_count, row_start_at}
+use Rattle.lookup.specs.Cases.{Covers, NoneCovers, OnlyCovers, OffsetIs, row_of_function}
 use Rattle.caller.specs.Cases.{WindowFits, ValueIs, Outside, Rule24, CfaIs, Rule26, Rule27, Asks, AsksNothing}
-use Rattle.caller.specs.Frame.{baseValue, callerSp}
+use Rattle.caller.specs.Frame.{base_value, caller_sp}
 use Rattle.caller.specs.Signature.{mask_of, clear}
 use Rattle.caller.specs.declared.registers.Process.{Process}
 use Rattle.caller.specs.declared.registers.Registers.{Registers}
@@ -43,8 +43,8 @@ use Rattle.explain.specs.declared.why.StepWhy.{StepWhy}
 
 -- row k of function i starts there, or function i has no such row
 abbrev pub StartIs : List ℕ → ℕ → ℕ → RowStart → Type 0
-StartIs s i k (Is start) = (k < rowCount s i) × (start ≡ rowStartAt s i k)
-StartIs s i k Missing = rowCount s i ≤ k
+StartIs s i k (Is start) = (k < row_count s i) × (start ≡ row_start_at s i k)
+StartIs s i k Missing = row_count s i ≤ k
 
 -- a row that starts there starts above the offset used, and one that is missing does not count
 abbrev pub AboveOffset : ℕ → RowStart → Type 0
@@ -55,18 +55,18 @@ AboveOffset offset Missing = Unit {0}
 -- other does, the row starts at or below the offset used, and the next one above it
 pub record WhyFound (s : List ℕ) (d : ℤ) (found : FoundRow) : Type 0 where
   pub only : OnlyCovers s d found.function
-  pub offset-is : OffsetIs s d found.function found.offset
-  pub inside : found.number < rowCount s found.function
-  pub row_is : found.row ≡ rowOfFunction s found.function found.number
-  pub from : rowStartAt s found.function found.number ≤ found.offset
-  pub next-is : StartIs s found.function (found.number + 1) found.next
+  pub offset_is : OffsetIs s d found.function found.offset
+  pub inside : found.number < row_count s found.function
+  pub row_is : found.row ≡ row_of_function s found.function found.number
+  pub from : row_start_at s found.function found.number ≤ found.offset
+  pub next_is : StartIs s found.function (found.number + 1) found.next
   pub above : AboveOffset found.offset found.next
 
 -- "For 23: the function, the offset used, and its first row's start or that it has no rows."
 pub record WhyNoRow (s : List ℕ) (d : ℤ) (function offset : ℕ) (first : RowStart) : Type 0 where
   pub only : OnlyCovers s d function
-  pub offset-is : OffsetIs s d function offset
-  pub first-is : StartIs s function 0 first
+  pub offset_is : OffsetIs s d function offset
+  pub first_is : StartIs s function 0 first
   pub above : AboveOffset offset first
 
 -- ---- functions
@@ -105,7 +105,7 @@ Between below above z = Behind below z × Before above z
 
 -- "For 22: the indexes of all covering functions in rising order, up to 16, and how many there are in all.": the functions that cover
 -- can be numbered from 0 on, rising, each once, up to how many there are; and the indexes handed out are the first of these
--- (`told-cover`, `told-rise`, `told-or-past`)
+-- (`told_cover`, `told_rise`, `told_or_past`)
 pub record AllCovering (s : List ℕ) (d : ℤ) (coverers : Coverers) : Type 0 where
   pub nth : ℕ → ℕ
   pub covers : (k : ℕ) → k < coverers.count → Covers s d (nth k)
@@ -128,7 +128,7 @@ WhyLooked s d coverers (looked.NotFound why) = WhyNotFound s d coverers why
 
 -- "a refused section explains itself by number and index": the rule of that number is the first broken one, in the entry with that index
 abbrev pub WhyUnsound : List ℕ → ℕ → ℕ → Type 0
-WhyUnsound s number index = (rule : Rule) × (number ≡ numberOfRule rule) × accept.Given s rule index
+WhyUnsound s number index = (rule : Rule) × (number ≡ number_of_rule rule) × accept.Given s rule index
 
 abbrev pub WhyReason : List ℕ → ℕ → ℕ → Coverers → LookupReason → Type 0
 WhyReason s address pc coverers (lookup.Unsound number index) = WhyUnsound s number index
@@ -150,29 +150,29 @@ module _ (s stack : List ℕ) (process : Process) (registers : Registers) (r : R
 
   -- "25 the base register's value and the offset": their exact sum is below 0 or above 2^64 - 1
   pub record WhyCfaOutside (base : ℕ) (offset : Offset) : Type 0 where
-    pub not-24 : ¬ Rule24 (shape_of s) r process
-    pub base-is : base ≡ baseValue registers r.base
-    pub offset-is : offset ≡ r.cfa
+    pub not_24 : ¬ Rule24 (shape_of s) r process
+    pub base_is : base ≡ base_value registers r.base
+    pub offset_is : offset ≡ r.cfa
     pub outside : ((pos base +ℤ offset.by) <ℤ pos 0) ⊎ (pos (2 ^ 64) ≤ℤ (pos base +ℤ offset.by))
 
   -- "26 the caller's SP and SP, and the mark"
   pub record WhyCfaLow (callersp sp first : ℕ) : Type 0 where
-    pub not-24 : ¬ Rule24 (shape_of s) r process
+    pub not_24 : ¬ Rule24 (shape_of s) r process
     pub cfa : ℕ
-    pub cfa-is : CfaIs registers r cfa
-    pub callersp-is : callersp ≡ callerSp cfa
-    pub sp-is : sp ≡ registers.sp
-    pub first-is : first ≡ registers.first
+    pub cfa_is : CfaIs registers r cfa
+    pub callersp_is : callersp ≡ caller_sp cfa
+    pub sp_is : sp ≡ registers.sp
+    pub first_is : first ≡ registers.first
     pub low : (callersp < sp) ⊎ ((callersp ≡ sp) × (first ≡ 0))
 
   -- "27 that RA has no place, and the mark"
   pub record WhyRaLost (first : ℕ) : Type 0 where
-    pub not-24 : ¬ Rule24 (shape_of s) r process
+    pub not_24 : ¬ Rule24 (shape_of s) r process
     pub cfa : ℕ
-    pub cfa-is : CfaIs registers r cfa
-    pub not-26 : ¬ Rule26 registers cfa
+    pub cfa_is : CfaIs registers r cfa
+    pub not_26 : ¬ Rule26 registers cfa
     pub no_place : r.ra ≡ Register
-    pub first-is : first ≡ registers.first
+    pub first_is : first ≡ registers.first
     pub unmarked : first ≡ 0
 
   -- the word that is needed lies at this offset from CFA; FP's counts where RA's is inside
@@ -183,28 +183,28 @@ module _ (s stack : List ℕ) (process : Process) (registers : Registers) (r : R
   -- "28 which word (RA's or FP's), CFA and the offset .., and the window's first address and length": the 8 bytes at their exact sum are
   -- not wholly inside
   pub record WhyWordOutside (word : Needed) (cfa : ℕ) (offset : Offset) (lies size : ℕ) : Type 0 where
-    pub not-24 : ¬ Rule24 (shape_of s) r process
-    pub cfa-is : CfaIs registers r cfa
-    pub not-26 : ¬ Rule26 registers cfa
-    pub not-27 : ¬ Rule27 registers r
+    pub not_24 : ¬ Rule24 (shape_of s) r process
+    pub cfa_is : CfaIs registers r cfa
+    pub not_26 : ¬ Rule26 registers cfa
+    pub not_27 : ¬ Rule27 registers r
     pub needed : NeededAt word cfa offset
-    pub lies-is : lies ≡ process.stack
+    pub lies_is : lies ≡ process.stack
     pub size_is : size ≡ length stack
     pub outside : ¬ ((pos lies ≤ℤ (pos cfa +ℤ offset.by)) × (((pos cfa +ℤ offset.by) +ℤ pos 8) ≤ℤ pos (lies + size)))
 
   -- "A step that yields a caller explains its row .., with CFA and where RA and FP came from": each from its register, or from the word at
   -- its offset from CFA, by the row; RA as it was read
   pub record WhyCaller (caller : Registers) (cfa ra : ℕ) : Type 0 where
-    pub not-24 : ¬ Rule24 (shape_of s) r process
-    pub cfa-is : CfaIs registers r cfa
-    pub not-26 : ¬ Rule26 registers cfa
-    pub not-27 : ¬ Rule27 registers r
-    pub ra-is : ValueIs stack process.stack (shape_of s).order cfa registers.lr r.ra ra
-    pub pc-is : caller.pc ≡ clear (mask_of (shape_of s) r process) ra
-    pub sp-is : caller.sp ≡ callerSp cfa
-    pub fp-is : ValueIs stack process.stack (shape_of s).order cfa registers.fp r.fp caller.fp
-    pub lr-is : caller.lr ≡ registers.lr
-    pub first-is : caller.first ≡ 0
+    pub not_24 : ¬ Rule24 (shape_of s) r process
+    pub cfa_is : CfaIs registers r cfa
+    pub not_26 : ¬ Rule26 registers cfa
+    pub not_27 : ¬ Rule27 registers r
+    pub ra_is : ValueIs stack process.stack (shape_of s).order cfa registers.lr r.ra ra
+    pub pc_is : caller.pc ≡ clear (mask_of (shape_of s) r process) ra
+    pub sp_is : caller.sp ≡ caller_sp cfa
+    pub fp_is : ValueIs stack process.stack (shape_of s).order cfa registers.fp r.fp caller.fp
+    pub lr_is : caller.lr ≡ registers.lr
+    pub first_is : caller.first ≡ 0
 
   abbrev pub WhyRow : RowReason → Type 0
   WhyRow (row.Caller caller cfa ra) = WhyCaller caller cfa ra
@@ -219,7 +219,7 @@ module _ (s stack : List ℕ) (process : Process) (registers : Registers) (r : R
 module _ (s stack : List ℕ) (process : Process) (registers : Registers) where
   -- "41 by the two numbers added"
   pub record WhyWindow (lies size : ℕ) : Type 0 where
-    pub lies-is : lies ≡ process.stack
+    pub lies_is : lies ≡ process.stack
     pub size_is : size ≡ length stack
     pub above : 2 ^ 64 < lies + size
 

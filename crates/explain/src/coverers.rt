@@ -1,10 +1,10 @@
 // All functions that cover a PC: how many, and the first sixteen of them.
 ghost use Rattle.std.specs.Prelude.{◌≡◌, ◌^◌, ◌<◌};
 ghost use Rattle.numbers.specs.Start.{distance};
-ghost use Rattle.section.specs.Meaning.{functionIn};
-ghost use Rattle.lookup.specs.computed.Covering.{covers};
-ghost use Rattle.lookup.specs.inner.Requires.{HeaderOf};
-ghost use Rattle.explain.specs.computed.Coverers.{noCoverers, withIndex, withIf, coverersIn};
+ghost use Rattle.section.specs.Meaning.{function_in};
+ghost use Rattle.lookup.specs.Computed.Covering.{covers};
+ghost use Rattle.lookup.specs.Inner.Requires.{HeaderOf};
+ghost use Rattle.explain.specs.Computed.Coverers.{no_coverers, with_index, with_if, coverers_in};
 
 use crate::why::Coverers;
 use lookup::search::{Past, past_in};
@@ -12,7 +12,7 @@ use section::header::Layout;
 
 // Nobody, where there is no dispute.
 pub fn no_coverers() -> Coverers
-    ensures { result ≡ noCoverers }
+    ensures { result ≡ no_coverers }
 {
     Coverers {
         count: 0,
@@ -23,7 +23,7 @@ pub fn no_coverers() -> Coverers
 // One more that covers. It counts also where there is no room for its index.
 fn with_index(known: Coverers, i: u64) -> Coverers
     requires { known.count < 2 ^ 32 }
-    ensures { result ≡ withIndex known i }
+    ensures { result ≡ with_index known i }
 {
     let n = known.count;
     let mut next = known;
@@ -38,7 +38,7 @@ fn with_index(known: Coverers, i: u64) -> Coverers
 
 fn with_if(known: Coverers, i: u64, covers: bool) -> Coverers
     requires { known.count < 2 ^ 32 }
-    ensures { result ≡ withIf covers i known }
+    ensures { result ≡ with_if covers i known }
 {
     if covers {
         return with_index(known, i);
@@ -49,7 +49,7 @@ fn with_if(known: Coverers, i: u64, covers: bool) -> Coverers
 // Whether function i covers the PC.
 fn covers_pc(section: &[u8], layout: Layout, i: u64, address: u64, pc: u64) -> bool
     requires { HeaderOf section.now layout × (i < layout.functions) }
-    ensures { result ≡ covers (distance address pc) (functionIn section.now i) }
+    ensures { result ≡ covers (distance address pc) (function_in section.now i) }
 {
     match past_in(section, layout, i, address, pc) {
         Past::Outside => false,
@@ -60,7 +60,7 @@ fn covers_pc(section: &[u8], layout: Layout, i: u64, address: u64, pc: u64) -> b
 // Every function is tried, in the section's order.
 pub fn all_covering(section: &[u8], layout: Layout, address: u64, pc: u64) -> Coverers
     requires { HeaderOf section.now layout }
-    ensures { result ≡ coverersIn section.now (distance address pc) }
+    ensures { result ≡ coverers_in section.now (distance address pc) }
 {
     let mut known = no_coverers();
     let mut i = 0;

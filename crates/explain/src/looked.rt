@@ -2,14 +2,14 @@
 // place.
 ghost use Rattle.std.specs.Prelude.{◌≡◌, ℕ, ◌≤◌, ◌<◌};
 ghost use Rattle.numbers.specs.Start.{distance};
-ghost use Rattle.section.specs.Meaning.{functionsOf};
-ghost use Rattle.section.specs.Row.{rowPlace};
-ghost use Rattle.section.specs.inner.Reading.{Readable};
-ghost use Rattle.accept.specs.computed.Checks.{entryFault};
+ghost use Rattle.section.specs.Meaning.{functions_of};
+ghost use Rattle.section.specs.Row.{row_place};
+ghost use Rattle.section.specs.Inner.Reading.{Readable};
+ghost use Rattle.accept.specs.Computed.Checks.{entry_fault};
 ghost use Rattle.accept.specs.declared.verdict.Fault.TheVariants.{Sound};
-ghost use Rattle.lookup.specs.computed.Covering.{covering, coverOf};
-ghost use Rattle.lookup.specs.inner.Requires.{HeaderOf, AcceptedOf, RowAsked};
-ghost use Rattle.explain.specs.computed.Lookup.{start_in, byScan, inFunction, aloneWhy, noFunctionWhy, byCover, lookedOf, lookupWhy};
+ghost use Rattle.lookup.specs.Computed.Covering.{covering, cover_of};
+ghost use Rattle.lookup.specs.Inner.Requires.{HeaderOf, AcceptedOf, RowAsked};
+ghost use Rattle.explain.specs.Computed.Lookup.{start_in, by_scan, in_function, alone_why, no_function_why, by_cover, looked_of, lookup_why};
 
 use crate::coverers::{all_covering, no_coverers};
 use crate::nearby::{Side, nearest_at};
@@ -28,8 +28,8 @@ use section::shape::{Shape, shape_of};
 
 // Where row k stands: each row follows the one before it.
 fn row_place(area: &[u8], code: usize, first: usize, k: u64) -> usize
-    requires { ((j : ℕ) → j < k → Readable area.now code (rowPlace area.now code first j)) × (code ≤ 2) }
-    ensures { result ≡ rowPlace area.now code first k }
+    requires { ((j : ℕ) → j < k → Readable area.now code (row_place area.now code first j)) × (code ≤ 2) }
+    ensures { result ≡ row_place area.now code first k }
 {
     let mut at = first;
     let mut j = 0;
@@ -42,7 +42,7 @@ fn row_place(area: &[u8], code: usize, first: usize, k: u64) -> usize
 
 // Where row k of an entry starts, if there is one.
 fn start_in(area: &[u8], shape: Shape, entry: Entry, k: u64) -> RowStart
-    requires { entryFault area.now shape entry ≡ Sound }
+    requires { entry_fault area.now shape entry ≡ Sound }
     ensures { result ≡ start_in area.now shape entry k }
 {
     if k < entry.rows as u64 {
@@ -56,8 +56,8 @@ fn start_in(area: &[u8], shape: Shape, entry: Entry, k: u64) -> RowStart
 
 // What the rows of function i come to at offset o.
 fn by_scan(area: &[u8], shape: Shape, entry: Entry, i: u64, o: u64, scan: Scan) -> Looked
-    requires { entryFault area.now shape entry ≡ Sound }
-    ensures { result ≡ byScan area.now shape entry i o scan }
+    requires { entry_fault area.now shape entry ≡ Sound }
+    ensures { result ≡ by_scan area.now shape entry i o scan }
 {
     match scan {
         Scan::Missed => Looked::NotFound(NotFound::NoRow {
@@ -78,7 +78,7 @@ fn by_scan(area: &[u8], shape: Shape, entry: Entry, i: u64, o: u64, scan: Scan) 
 // What function i comes to, which alone covers the PC.
 fn in_function(section: &[u8], layout: Layout, i: u64, address: u64, pc: u64) -> Looked
     requires { RowAsked section.now layout i (distance address pc) }
-    ensures { result ≡ inFunction section.now (distance address pc) i }
+    ensures { result ≡ in_function section.now (distance address pc) i }
 {
     let entry = entry_in(section, layout, order_at(section), i);
     let past = near_of(address, pc) - start_of(layout.relative, entry);
@@ -92,7 +92,7 @@ fn in_function(section: &[u8], layout: Layout, i: u64, address: u64, pc: u64) ->
 
 // Without a dispute, nobody stands beside.
 fn alone(looked: Looked) -> LookedWhy
-    ensures { result ≡ aloneWhy looked }
+    ensures { result ≡ alone_why looked }
 {
     LookedWhy {
         looked: looked,
@@ -103,7 +103,7 @@ fn alone(looked: Looked) -> LookedWhy
 // 21: the nearest addresses that are covered.
 fn no_function(section: &[u8], layout: Layout, address: u64, pc: u64) -> NotFound
     requires { HeaderOf section.now layout }
-    ensures { result ≡ noFunctionWhy section.now (distance address pc) }
+    ensures { result ≡ no_function_why section.now (distance address pc) }
 {
     NotFound::NoFunction {
         below: nearest_at(section, layout, Side::Below, address, pc),
@@ -112,8 +112,8 @@ fn no_function(section: &[u8], layout: Layout, address: u64, pc: u64) -> NotFoun
 }
 
 fn by_cover(section: &[u8], layout: Layout, cover: Cover, address: u64, pc: u64) -> LookedWhy
-    requires { AcceptedOf section.now layout × (cover ≡ coverOf (covering (distance address pc) (functionsOf section.now))) }
-    ensures { result ≡ byCover section.now (distance address pc) cover }
+    requires { AcceptedOf section.now layout × (cover ≡ cover_of (covering (distance address pc) (functions_of section.now))) }
+    ensures { result ≡ by_cover section.now (distance address pc) cover }
 {
     match cover {
         Cover::Nobody => alone(Looked::NotFound(no_function(section, layout, address, pc))),
@@ -128,7 +128,7 @@ fn by_cover(section: &[u8], layout: Layout, cover: Cover, address: u64, pc: u64)
 // On a section that was checked before.
 pub fn explain_look(section: &[u8], layout: Layout, address: u64, pc: u64) -> LookedWhy
     requires { AcceptedOf section.now layout }
-    ensures { result ≡ lookedOf section.now (distance address pc) }
+    ensures { result ≡ looked_of section.now (distance address pc) }
 {
     let search = find(section, layout, address, pc);
     let cover = search.cover;
@@ -137,7 +137,7 @@ pub fn explain_look(section: &[u8], layout: Layout, address: u64, pc: u64) -> Lo
 
 // On any bytes: a refused section explains itself by its number and index.
 pub fn explain_lookup(section: &[u8], address: u64, pc: u64) -> LookupWhy
-    ensures { result ≡ lookupWhy section.now address pc }
+    ensures { result ≡ lookup_why section.now address pc }
 {
     match check(section) {
         Verdict::Refused { number, index } => LookupWhy {

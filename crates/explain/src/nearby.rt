@@ -2,11 +2,11 @@
 // search for the largest key: below, where a function ends; above, how far its start is from what is above every start.
 ghost use Rattle.std.specs.Prelude.{◌≡◌, ◌*◌, ◌^◌, ◌≤◌, ◌<◌, ℤ, pos, ◌-ℤ◌};
 ghost use Rattle.numbers.specs.Start.{distance};
-ghost use Rattle.numbers.specs.inner.Held.{Near};
-ghost use Rattle.section.specs.Meaning.{entryIn, functionStart};
-ghost use Rattle.lookup.specs.inner.Requires.{HeaderOf, TableOf};
-ghost use Rattle.explain.specs.computed.Nearest.{tried, nearestIn};
-ghost use Rattle.explain.specs.inner.Keys.{sideKey, keyBy, better, held_of, nearestOf};
+ghost use Rattle.numbers.specs.Inner.Held.{Near};
+ghost use Rattle.section.specs.Meaning.{entry_in, function_start};
+ghost use Rattle.lookup.specs.Inner.Requires.{HeaderOf, TableOf};
+ghost use Rattle.explain.specs.Computed.Nearest.{tried, nearest_in};
+ghost use Rattle.explain.specs.Inner.Keys.{side_key, key_by, better, held_of, nearest_of};
 
 use crate::why::Nearest;
 use lookup::table::entry_in;
@@ -38,7 +38,7 @@ pub struct Best {
 // The key of a function that is not empty: 0 where it does not lie on that side.
 fn side_key(side: Side, start: u64, size: u32, d: u64) -> u64
     requires { start ≤ 3 * 2 ^ 32 }
-    ensures { result ≡ sideKey side start size d }
+    ensures { result ≡ side_key side start size d }
 {
     match side {
         Side::Below => {
@@ -60,7 +60,7 @@ fn side_key(side: Side, start: u64, size: u32, d: u64) -> u64
 // An empty function covers nothing, and is never the nearest.
 fn key_of(side: Side, start: u64, size: u32, d: u64) -> u64
     requires { start ≤ 3 * 2 ^ 32 }
-    ensures { result ≡ keyBy side start size d }
+    ensures { result ≡ key_by side start size d }
 {
     if size == 0 {
         return 0;
@@ -71,7 +71,7 @@ fn key_of(side: Side, start: u64, size: u32, d: u64) -> u64
 // The key of function i.
 fn key_at(section: &[u8], layout: Layout, order: Order, side: Side, i: u64, d: u64) -> u64
     requires { TableOf section.now layout order × (i < layout.functions) }
-    ensures i_value { (z : ℤ) (best : Best) → Near z d → best.key ≤ 2 ^ 34 → nearestOf side (better best result i) ≡ tried side z (functionStart section.now i) (entryIn section.now i).size i (nearestOf side best) }
+    ensures i_value { (z : ℤ) (best : Best) → Near z d → best.key ≤ 2 ^ 34 → nearest_of side (better best result i) ≡ tried side z (function_start section.now i) (entry_in section.now i).size i (nearest_of side best) }
     ensures range { d ≤ 2 ^ 34 → result ≤ 2 ^ 34 }
 {
     let entry = entry_in(section, layout, order, i);
@@ -94,7 +94,7 @@ fn better_of(best: Best, key: u64, i: u64) -> Best
 // The largest key of all functions.
 fn best_in(section: &[u8], layout: Layout, order: Order, side: Side, d: u64) -> Best
     requires { TableOf section.now layout order × (d ≤ 2 ^ 34) }
-    ensures result_value { (z : ℤ) → Near z d → nearestOf side result ≡ nearestIn section.now side z }
+    ensures result_value { (z : ℤ) → Near z d → nearest_of side result ≡ nearest_in section.now side z }
     ensures range { result.key ≤ 2 ^ 34 }
 {
     let mut best = Best {
@@ -133,7 +133,7 @@ fn lowered(held: u64) -> Offset
 
 fn nearest_of(side: Side, best: Best) -> Nearest
     requires { best.key ≤ 2 ^ 34 }
-    ensures { result ≡ nearestOf side best }
+    ensures { result ≡ nearest_of side best }
 {
     if best.key == 0 {
         return Nearest::Nothing;
@@ -147,7 +147,7 @@ fn nearest_of(side: Side, best: Best) -> Nearest
 // The covered address nearest to a PC on one side, where no function covers the PC itself.
 pub fn nearest_at(section: &[u8], layout: Layout, side: Side, address: u64, pc: u64) -> Nearest
     requires { HeaderOf section.now layout }
-    ensures { result ≡ nearestIn section.now side (distance address pc) }
+    ensures { result ≡ nearest_in section.now side (distance address pc) }
 {
     let order = order_at(section);
     let best = best_in(section, layout, order, side, near_of(address, pc));

@@ -1,8 +1,8 @@
 // Why a step gives its answer: the row that it uses and the numbers that its rules compare, in the order of the step.
 ghost use Rattle.std.specs.Prelude.{◌≡◌};
 ghost use Rattle.caller.specs.Frame.{asked_of};
-ghost use Rattle.lookup.specs.inner.Requires.{AcceptedOf};
-ghost use Rattle.explain.specs.computed.Step.{fetchedAt, fetchedOf, outsideWhy, callerWhy, withRa, fromWords, fromHigh, fromCfaWhy, fromRowWhy, byLooked, unlookedWhy, askedWhy, stepWhy};
+ghost use Rattle.lookup.specs.Inner.Requires.{AcceptedOf};
+ghost use Rattle.explain.specs.Computed.Step.{fetched_at, fetched_of, outside_why, caller_why, with_ra, from_words, from_high, from_cfa_why, from_row_why, by_looked, unlooked_why, asked_why, step_why};
 
 use crate::coverers::no_coverers;
 use crate::looked::explain_look;
@@ -29,7 +29,7 @@ pub enum Fetched {
 }
 
 fn fetched_at(offset: Offset, word: Word) -> Fetched
-    ensures { result ≡ fetchedAt offset word }
+    ensures { result ≡ fetched_at offset word }
 {
     match word {
         Word::Is(value) => Fetched::Is(value),
@@ -38,7 +38,7 @@ fn fetched_at(offset: Offset, word: Word) -> Fetched
 }
 
 fn fetch(stack: &[u8], lies: u64, order: Order, cfa: u64, register: u64, place: Place) -> Fetched
-    ensures { result ≡ fetchedOf stack.now lies order cfa register place }
+    ensures { result ≡ fetched_of stack.now lies order cfa register place }
 {
     let spot = spot_of(cfa, place);
     match place {
@@ -51,7 +51,7 @@ fn fetch(stack: &[u8], lies: u64, order: Order, cfa: u64, register: u64, place: 
 
 // 28, of one word.
 fn outside(word: Needed, cfa: u64, offset: Offset, stack: &[u8], lies: u64) -> RowReason
-    ensures { result ≡ outsideWhy word cfa offset stack.now lies }
+    ensures { result ≡ outside_why word cfa offset stack.now lies }
 {
     RowReason::WordOutside {
         word: word,
@@ -64,7 +64,7 @@ fn outside(word: Needed, cfa: u64, offset: Offset, stack: &[u8], lies: u64) -> R
 
 // The caller, by RA as it was read and FP.
 fn caller_of(registers: Registers, mask: u64, cfa: u64, ra: u64, fp: u64) -> RowReason
-    ensures { result ≡ callerWhy registers mask cfa ra fp }
+    ensures { result ≡ caller_why registers mask cfa ra fp }
 {
     RowReason::Caller {
         caller: Registers {
@@ -89,7 +89,7 @@ fn with_ra(
     ra: u64,
     fp: Fetched,
 ) -> RowReason
-    ensures { result ≡ withRa registers stack.now lies mask cfa ra fp }
+    ensures { result ≡ with_ra registers stack.now lies mask cfa ra fp }
 {
     match fp {
         Fetched::Missing(offset) => outside(Needed::Fp, cfa, offset, stack, lies),
@@ -107,7 +107,7 @@ fn from_words(
     ra: Fetched,
     fp: Fetched,
 ) -> RowReason
-    ensures { result ≡ fromWords registers stack.now lies mask cfa ra fp }
+    ensures { result ≡ from_words registers stack.now lies mask cfa ra fp }
 {
     match ra {
         Fetched::Missing(offset) => outside(Needed::Ra, cfa, offset, stack, lies),
@@ -124,7 +124,7 @@ fn from_high(
     row: Row,
     cfa: u64,
 ) -> RowReason
-    ensures { result ≡ fromHigh shape stack.now process registers row cfa }
+    ensures { result ≡ from_high shape stack.now process registers row cfa }
 {
     let ra = row.ra;
     let fp = row.fp;
@@ -150,7 +150,7 @@ fn from_cfa(
     row: Row,
     cfa: u64,
 ) -> RowReason
-    ensures { result ≡ fromCfaWhy shape stack.now process registers row cfa }
+    ensures { result ≡ from_cfa_why shape stack.now process registers row cfa }
 {
     let sp = caller_sp(cfa);
     if is_low(registers, sp) {
@@ -171,7 +171,7 @@ pub fn explain_row(
     registers: Registers,
     row: Row,
 ) -> RowReason
-    ensures { result ≡ fromRowWhy shape stack.now process registers row }
+    ensures { result ≡ from_row_why shape stack.now process registers row }
 {
     if is_maskless(shape, row, process) {
         return RowReason::Signed {
@@ -199,7 +199,7 @@ fn by_looked(
     pc: u64,
     why: LookedWhy,
 ) -> StepWhy
-    ensures { result ≡ byLooked shape stack.now process registers pc why }
+    ensures { result ≡ by_looked shape stack.now process registers pc why }
 {
     let looked = why.looked;
     let coverers = why.coverers;
@@ -227,7 +227,7 @@ fn by_looked(
 
 // Without a lookup, nobody stands beside.
 fn unlooked(reason: StepReason) -> StepWhy
-    ensures { result ≡ unlookedWhy reason }
+    ensures { result ≡ unlooked_why reason }
 {
     StepWhy {
         reason: reason,
@@ -244,7 +244,7 @@ fn explain_checked(
     registers: Registers,
 ) -> StepWhy
     requires { AcceptedOf section.now layout }
-    ensures { result ≡ askedWhy section.now stack.now process registers (asked_of registers) }
+    ensures { result ≡ asked_why section.now stack.now process registers (asked_of registers) }
 {
     let Asked::At(pc) = asked_of(registers) else {
         return unlooked(StepReason::NothingAsked);
@@ -256,7 +256,7 @@ fn explain_checked(
 
 // On any bytes, stack and registers: 41 and 1 to 15 first.
 pub fn explain_step(section: &[u8], stack: &[u8], process: Process, registers: Registers) -> StepWhy
-    ensures { result ≡ stepWhy section.now stack.now process registers }
+    ensures { result ≡ step_why section.now stack.now process registers }
 {
     if !window_fits(stack, process.stack) {
         return unlooked(StepReason::Window {

@@ -1,6 +1,6 @@
 // The exact sum of a base and an offset, told where it is no address.
 ghost use Rattle.std.specs.Prelude.{◌≡◌};
-ghost use Rattle.explain.specs.computed.Sum.{sumUp, sumDown, sum_of};
+ghost use Rattle.explain.specs.Computed.Sum.{sum_up, sum_down, sum_of};
 
 use numbers::offset::{Offset, Shift, shift_of};
 
@@ -13,7 +13,7 @@ pub enum Sum {
 }
 
 fn raised_by(base: u64, by: u64) -> Sum
-    ensures { result ≡ sumUp base by }
+    ensures { result ≡ sum_up base by }
 {
     let room = u64::MAX - base;
     if by <= room {
@@ -23,7 +23,7 @@ fn raised_by(base: u64, by: u64) -> Sum
 }
 
 fn lowered_by(base: u64, by: u64) -> Sum
-    ensures { result ≡ sumDown base by }
+    ensures { result ≡ sum_down base by }
 {
     if by <= base {
         return Sum::At(base - by);

@@ -7,14 +7,14 @@ use Prim.Native.Nat.{ℕ, zero, suc, ◌+◌, ◌≤◌}
 use native.Mathlib.Omega.{arith}
 use lib.ListN.{length, drop}
 use lib.Seq.{drop-drop}
-use Rattle.listing.specs.Listing.{nextRow, nextLine, after}
-use Rattle.listing.specs.computed.Lines.{lineTurn, linesLeft}
-use Rattle.listing.specs.computed.Turns.{rowTurn, rowsLeft}
+use Rattle.listing.specs.Listing.{next_row, next_line, after}
+use Rattle.listing.specs.Computed.Lines.{line_turn, lines_left}
+use Rattle.listing.specs.Computed.Turns.{row_turn, rows_left}
 use Rattle.listing.specs.declared.lines.Cursor.{Cursor}
 use Rattle.listing.specs.declared.rows.RowPlace.{RowPlace}
-use Rattle.listing.proofs.LinesLeft.{line-yields}
-use Rattle.listing.proofs.RowMeaning.{stays-inside}
-use Rattle.listing.proofs.RowsLeft.{turn-yields}
+use Rattle.listing.proofs.LinesLeft.{line_yields}
+use Rattle.listing.proofs.RowMeaning.{stays_inside}
+use Rattle.listing.proofs.RowsLeft.{turn_yields}
 
 -- where each call drops one of what is left, k calls drop k
 pub left_after : {P A : Type 0} (on : P → P) (left : P → List A) → ((p : P) → left (on p) ≡ drop 1 (left p))
@@ -27,23 +27,23 @@ left_after on left one (suc k) p =
 
 -- ---- rows
 
-abbrev pub rowsOn : List ℕ → RowPlace → RowPlace
-rowsOn s place = (rowTurn s place).place
+abbrev pub rows_on : List ℕ → RowPlace → RowPlace
+rows_on s place = (row_turn s place).place
 
-pub row-after : (s : List ℕ) (place : RowPlace) (k : ℕ) → (rowTurn s (after (rowsOn s) k place)).next ≡ nextRow (drop k (rowsLeft s place))
-row-after s place k =
-    (turn-yields s (after (rowsOn s) k place)).next ∙ ap nextRow (left_after (rowsOn s) (rowsLeft s) (λ p. (turn-yields s p).rest) k place)
+pub row_after : (s : List ℕ) (place : RowPlace) (k : ℕ) → (row_turn s (after (rows_on s) k place)).next ≡ next_row (drop k (rows_left s place))
+row_after s place k =
+    (turn_yields s (after (rows_on s) k place)).next ∙ ap next_row (left_after (rows_on s) (rows_left s) (λ p. (turn_yields s p).rest) k place)
 
-pub inside-after : (s : List ℕ) (place : RowPlace) → place.at ≤ length s → (k : ℕ) → (after (rowsOn s) k place).at ≤ length s
+pub inside_after : (s : List ℕ) (place : RowPlace) → place.at ≤ length s → (k : ℕ) → (after (rows_on s) k place).at ≤ length s
 unfolding after
-inside-after s place inside zero = inside
-inside-after s place inside (suc k) = stays-inside s (after (rowsOn s) k place) (inside-after s place inside k)
+inside_after s place inside zero = inside
+inside_after s place inside (suc k) = stays_inside s (after (rows_on s) k place) (inside_after s place inside k)
 
 -- ---- lines
 
-abbrev pub linesOn : List ℕ → Cursor → Cursor
-linesOn s cursor = (lineTurn s cursor).cursor
+abbrev pub lines_on : List ℕ → Cursor → Cursor
+lines_on s cursor = (line_turn s cursor).cursor
 
-pub line_after : (s : List ℕ) (cursor : Cursor) (k : ℕ) → (lineTurn s (after (linesOn s) k cursor)).next ≡ nextLine (drop k (linesLeft s cursor))
-line_after s cursor k =
-    (line-yields s (after (linesOn s) k cursor)).next ∙ ap nextLine (left_after (linesOn s) (linesLeft s) (λ c. (line-yields s c).rest) k cursor)
+pub line_after_lem : (s : List ℕ) (cursor : Cursor) (k : ℕ) → (line_turn s (after (lines_on s) k cursor)).next ≡ next_line (drop k (lines_left s cursor))
+line_after_lem s cursor k =
+    (line_yields s (after (lines_on s) k cursor)).next ∙ ap next_line (left_after (lines_on s) (lines_left s) (λ c. (line_yields s c).rest) k cursor)

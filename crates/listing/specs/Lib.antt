@@ -1,4 +1,4 @@
 pub mod Functions
 pub mod Listing
-pub mod computed
-pub mod inner
+pub mod Computed
+pub mod Inner

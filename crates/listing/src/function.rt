@@ -2,10 +2,10 @@
 ghost use Rattle.std.specs.Prelude.{◌≡◌};
 ghost use Rattle.section.specs.Header.{layout_of};
 ghost use Rattle.section.specs.Meaning.{block_of};
-ghost use Rattle.accept.specs.computed.Checks.{headerFault};
+ghost use Rattle.accept.specs.Computed.Checks.{header_fault};
 ghost use Rattle.accept.specs.declared.verdict.Fault.TheVariants.{Sound};
-ghost use Rattle.listing.specs.Functions.{kind_of, facts_of, describedIn, describedOf};
-ghost use Rattle.listing.specs.inner.Requires.{EntryThere};
+ghost use Rattle.listing.specs.Functions.{kind_of, facts_of, described_in, described_of};
+ghost use Rattle.listing.specs.Inner.Requires.{EntryThere};
 
 use crate::rows::RowPlace;
 use accept::header_check::check_header;
@@ -68,8 +68,8 @@ pub fn facts_at(section: &[u8], layout: Layout, i: u64) -> Facts
 }
 
 fn described_in(section: &[u8], layout: Layout, index: u64) -> Described
-    requires { (headerFault section.now ≡ Sound) × (layout ≡ layout_of section.now) }
-    ensures { result ≡ describedIn section.now index }
+    requires { (header_fault section.now ≡ Sound) × (layout ≡ layout_of section.now) }
+    ensures { result ≡ described_in section.now index }
 {
     if index < layout.functions as u64 {
         return Described::Function(facts_at(section, layout, index));
@@ -79,7 +79,7 @@ fn described_in(section: &[u8], layout: Layout, index: u64) -> Described
 
 // The function with an index, on any bytes.
 pub fn function_at(section: &[u8], index: u64) -> Described
-    ensures { result ≡ describedOf section.now index }
+    ensures { result ≡ described_of section.now index }
 {
     match check_header(section) {
         Fault::Breaks(number) => Described::Unsound(number),

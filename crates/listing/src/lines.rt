@@ -1,7 +1,7 @@
 // A section as lines, in section order: each function has one, and below it each of its rows has one. Any bytes and any cursor may
 // be handed in.
 ghost use Rattle.std.specs.Prelude.{◌≡◌, ◌≤◌, ◌<◌, ◌^◌, length};
-ghost use Rattle.listing.specs.computed.Lines.{line_at, stopped, cursorOver, hasEntry, entryTurn, functionTurn, lineTurn, cursorOf, cursorAt};
+ghost use Rattle.listing.specs.Computed.Lines.{line_at, stopped, cursor_over, has_entry, entry_turn, function_turn, line_turn, cursor_of, cursor_at};
 
 use crate::function::{Facts, Kind, facts_at};
 use crate::rows::{NextRow, RowPlace, ended_at, nowhere, row_turn};
@@ -50,7 +50,7 @@ pub struct LineTurn {
 
 // So many functions from an index on, none of whose lines has been yielded.
 pub fn cursor_over(index: u64, left: u32) -> Cursor
-    ensures { result ≡ cursorOver index left }
+    ensures { result ≡ cursor_over index left }
 {
     Cursor {
         index: index,
@@ -99,7 +99,7 @@ fn line_at(cursor: Cursor, facts: Facts) -> LineTurn
 
 // Whether an entry with this index lies in a section of so many bytes. Its place is then below 2^32.
 fn has_entry(layout: Layout, length: usize, i: u64) -> bool
-    ensures { result ≡ hasEntry layout length i }
+    ensures { result ≡ has_entry layout length i }
 {
     if (length as u64) < layout.area {
         return false;
@@ -113,7 +113,7 @@ fn has_entry(layout: Layout, length: usize, i: u64) -> bool
 // The next function's line, in a section with a whole header. The header is not checked again for each line.
 fn entry_turn(section: &[u8], cursor: Cursor) -> LineTurn
     requires { (28 ≤ length section.now) × (0 < cursor.left) }
-    ensures { result ≡ entryTurn section.now cursor }
+    ensures { result ≡ entry_turn section.now cursor }
 {
     let layout = layout_at(section);
     if has_entry(layout, section.len(), cursor.index) {
@@ -124,7 +124,7 @@ fn entry_turn(section: &[u8], cursor: Cursor) -> LineTurn
 
 // The next function's line.
 fn function_turn(section: &[u8], cursor: Cursor) -> LineTurn
-    ensures { result ≡ functionTurn section.now cursor }
+    ensures { result ≡ function_turn section.now cursor }
 {
     if cursor.left < 1 {
         return stopped_at(cursor);
@@ -137,7 +137,7 @@ fn function_turn(section: &[u8], cursor: Cursor) -> LineTurn
 
 // The next line: a row's where the function before has one left, else the next function's.
 pub fn next_line(section: &[u8], cursor: Cursor) -> LineTurn
-    ensures { result ≡ lineTurn section.now cursor }
+    ensures { result ≡ line_turn section.now cursor }
 {
     let rows = cursor.rows;
     let turn = row_turn(section, rows);
@@ -160,7 +160,7 @@ pub fn next_line(section: &[u8], cursor: Cursor) -> LineTurn
 
 // All of an accepted section; nothing of a refused one.
 pub fn cursor_of(section: &[u8]) -> Cursor
-    ensures { result ≡ cursorOf section.now }
+    ensures { result ≡ cursor_of section.now }
 {
     match check(section) {
         Verdict::Refused { number, index } => cursor_over(0, 0),
@@ -173,7 +173,7 @@ pub fn cursor_of(section: &[u8]) -> Cursor
 
 // One function of an accepted section; nothing of a refused one, and nothing past its last function.
 pub fn cursor_at(section: &[u8], index: u64) -> Cursor
-    ensures { result ≡ cursorAt section.now index }
+    ensures { result ≡ cursor_at section.now index }
 {
     match check(section) {
         Verdict::Refused {

@@ -1,8 +1,8 @@
 // The row reader: it holds the section's bytes and its place, and each call yields the next row of one function. A struct with a
 // slice in it is proved by hand, so both functions here are thin shells: `place_of` and `row_turn` do the work.
 ghost use Rattle.std.specs.Prelude.{◌≡◌};
-ghost use Rattle.listing.specs.computed.Turns.{rowTurn};
-ghost use Rattle.listing.specs.computed.Reader.{place_in, placeOf};
+ghost use Rattle.listing.specs.Computed.Turns.{row_turn};
+ghost use Rattle.listing.specs.Computed.Reader.{place_in, place_of};
 
 use crate::function::{Described, function_at};
 use crate::rows::{NextRow, RowPlace, nowhere, row_turn};
@@ -28,7 +28,7 @@ pub fn place_in(described: Described) -> RowPlace
 
 // The same in an accepted section; none is left in a refused one.
 pub fn place_of(section: &[u8], index: u64) -> RowPlace
-    ensures { result ≡ placeOf section.now index }
+    ensures { result ≡ place_of section.now index }
 {
     match check(section) {
         Verdict::Refused {
@@ -41,7 +41,7 @@ pub fn place_of(section: &[u8], index: u64) -> RowPlace
 
 // A reader of one function's rows, on any bytes.
 pub fn reader_of<'a>(section: &'a [u8], index: u64) -> RowReader<'a>
-    ensures { (result.section ≡ section.entry) × (result.place ≡ placeOf section.now index) }
+    ensures { (result.section ≡ section.entry) × (result.place ≡ place_of section.now index) }
 {
     RowReader {
         section: section,
@@ -52,7 +52,7 @@ pub fn reader_of<'a>(section: &'a [u8], index: u64) -> RowReader<'a>
 // The next row, or that there are no more, however often it is asked.
 pub fn next_row<'s, 'a>(reader: &'s mut RowReader<'a>) -> NextRow
     ensures { (reader.new.section ≡ reader.old.section)
-        × ((record { next = result; place = reader.new.place }) ≡ rowTurn reader.old.section.now reader.old.place) }
+        × ((record { next = result; place = reader.new.place }) ≡ row_turn reader.old.section.now reader.old.place) }
 {
     let turn = row_turn(reader.section, reader.place);
     reader.place = turn.place;

@@ -2,8 +2,8 @@
 ghost use Rattle.std.specs.Prelude.{true, ◌≡◌};
 ghost use Rattle.section.specs.Row.{row_of};
 ghost use Rattle.section.specs.Shape.{shape};
-ghost use Rattle.section.specs.inner.Reading.{Readable};
-ghost use Rattle.listing.specs.computed.Turns.{namesOffsets, hasFixed, can_read, has_row, passed, ended, nothingLeft, rowTurn};
+ghost use Rattle.section.specs.Inner.Reading.{Readable};
+ghost use Rattle.listing.specs.Computed.Turns.{names_offsets, has_fixed, can_read, has_row, passed, ended, nothing_left, row_turn};
 
 use numbers::field::width_of;
 use section::row::{Row, count_of, info_at, offset_size_of, row_at, row_length};
@@ -34,7 +34,7 @@ pub struct RowTurn {
 
 // Whether an info byte names a size of offsets, and at least one.
 fn names_offsets(info: u8) -> bool
-    ensures { result ≡ namesOffsets info }
+    ensures { result ≡ names_offsets info }
 {
     if 2 < offset_size_of(info) {
         return false;
@@ -47,7 +47,7 @@ fn names_offsets(info: u8) -> bool
 
 // Whether the fixed part of a row is inside, its start and its info byte.
 fn has_fixed(section: &[u8], code: usize, at: usize) -> bool
-    ensures { result ≡ hasFixed section.now code at }
+    ensures { result ≡ has_fixed section.now code at }
 {
     if 2 < code {
         return false;
@@ -116,7 +116,7 @@ pub fn ended_at(place: RowPlace) -> RowPlace
 
 // A place with no row left, of any section.
 pub fn nowhere() -> RowPlace
-    ensures { result ≡ nothingLeft }
+    ensures { result ≡ nothing_left }
 {
     RowPlace {
         abi: Abi::Amd64,
@@ -140,7 +140,7 @@ fn decoded_at(section: &[u8], abi: Abi, code: usize, at: usize) -> Row
 
 // One turn, on any bytes and from any place.
 pub fn row_turn(section: &[u8], place: RowPlace) -> RowTurn
-    ensures { result ≡ rowTurn section.now place }
+    ensures { result ≡ row_turn section.now place }
 {
     if has_row(section, place) {
         let abi = place.abi;

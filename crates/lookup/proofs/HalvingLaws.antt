@@ -11,26 +11,26 @@ use lib.IntN.{ℤ}
 use lib.ListN.{length}
 use borrow.Author.Tests.{ltb-true, ltb-false, lt-ltb, le-ltb}
 use Rattle.section.specs.Meaning.{Function}
-use Rattle.lookup.specs.Halving.{halve, startsAtMost, landing}
-use Rattle.lookup.proofs.CoveringLaws.{by_value, unless-true}
+use Rattle.lookup.specs.Halving.{halve, starts_at_most, landing}
+use Rattle.lookup.proofs.CoveringLaws.{by_value, unless_true}
 
 -- ---- one turn
 
 module _ (at_most : ℕ → Bool) where
-  pub halve-up : (turns low high compared : ℕ) → low < high → at_most ((low + high) / 2) ≡ true
+  pub halve_up : (turns low high compared : ℕ) → low < high → at_most ((low + high) / 2) ≡ true
       → halve at_most (suc turns) low high compared ≡ halve at_most turns (suc ((low + high) / 2)) high (suc compared)
   unfolding halve
-  halve-up turns low high compared lt e = rw (lt-ltb low high lt, halve) (rw e)
+  halve_up turns low high compared lt e = rw (lt-ltb low high lt, halve) (rw e)
 
-  pub halve-down : (turns low high compared : ℕ) → low < high → at_most ((low + high) / 2) ≡ false
+  pub halve_down : (turns low high compared : ℕ) → low < high → at_most ((low + high) / 2) ≡ false
       → halve at_most (suc turns) low high compared ≡ halve at_most turns low ((low + high) / 2) (suc compared)
   unfolding halve
-  halve-down turns low high compared lt e = rw (lt-ltb low high lt, halve) (rw e)
+  halve_down turns low high compared lt e = rw (lt-ltb low high lt, halve) (rw e)
 
-  pub halve-stop : (turns low high compared : ℕ) → high ≤ low → halve at_most turns low high compared ≡ record { low = low; compared = compared }
+  pub halve_stop : (turns low high compared : ℕ) → high ≤ low → halve at_most turns low high compared ≡ record { low = low; compared = compared }
   unfolding halve
-  halve-stop zero low high compared le = refl
-  halve-stop (suc turns) low high compared le = rw (le-ltb low high le, halve)
+  halve_stop zero low high compared le = refl
+  halve_stop (suc turns) low high compared le = rw (le-ltb low high le, halve)
 
   -- go on by what the turn does
   pub by_turn : {X : Type 0} (low high : ℕ) → (high ≤ low → X) → (low < high → at_most ((low + high) / 2) ≡ true → X)
@@ -43,38 +43,38 @@ module _ (at_most : ℕ → Bool) where
   -- ---- the rule ends by itself
 
   -- where there are as many turns as entries between low and high, more of them change nothing
-  pub turns-enough : (turns more low high compared : ℕ) → turns ≤ more → high ≤ low + turns
+  pub turns_enough : (turns more low high compared : ℕ) → turns ≤ more → high ≤ low + turns
       → halve at_most more low high compared ≡ halve at_most turns low high compared
-  turns-enough zero more low high compared fewer le =
-      halve-stop more low high compared (omega arith) ∙ sym (halve-stop zero low high compared (omega arith))
-  turns-enough (suc turns) zero low high compared fewer le = absurd (omega arith)
-  turns-enough (suc turns) (suc more) low high compared fewer le =
+  turns_enough zero more low high compared fewer le =
+      halve_stop more low high compared (omega arith) ∙ sym (halve_stop zero low high compared (omega arith))
+  turns_enough (suc turns) zero low high compared fewer le = absurd (omega arith)
+  turns_enough (suc turns) (suc more) low high compared fewer le =
       by_turn low high
-      (λ over. halve-stop (suc more) low high compared over ∙ sym (halve-stop (suc turns) low high compared over))
+      (λ over. halve_stop (suc more) low high compared over ∙ sym (halve_stop (suc turns) low high compared over))
       (λ less e.
-      halve-up more low high compared less e
-      ∙ turns-enough turns more (suc ((low + high) / 2)) high (suc compared) (omega arith) (omega arith)
-      ∙ sym (halve-up turns low high compared less e))
+      halve_up more low high compared less e
+      ∙ turns_enough turns more (suc ((low + high) / 2)) high (suc compared) (omega arith) (omega arith)
+      ∙ sym (halve_up turns low high compared less e))
       (λ less e.
-      halve-down more low high compared less e
-      ∙ turns-enough turns more low ((low + high) / 2) (suc compared) (omega arith) (omega arith)
-      ∙ sym (halve-down turns low high compared less e))
+      halve_down more low high compared less e
+      ∙ turns_enough turns more low ((low + high) / 2) (suc compared) (omega arith) (omega arith)
+      ∙ sym (halve_down turns low high compared less e))
 
   -- ---- how many are compared
 
   -- fewer than 2 ^ j entries are left: at most j of them are compared
-  pub count-from : (turns low high compared j : ℕ) → high < low + 2 ^ j → (halve at_most turns low high compared).compared ≤ compared + j
+  pub count_from : (turns low high compared j : ℕ) → high < low + 2 ^ j → (halve at_most turns low high compared).compared ≤ compared + j
   unfolding halve
-  count-from zero low high compared j lt = omega arith
-  count-from (suc turns) low high compared zero lt = rw (halve-stop (suc turns) low high compared (omega arith)) (omega arith)
-  count-from (suc turns) low high compared (suc j) lt =
+  count_from zero low high compared j lt = omega arith
+  count_from (suc turns) low high compared zero lt = rw (halve_stop (suc turns) low high compared (omega arith)) (omega arith)
+  count_from (suc turns) low high compared (suc j) lt =
       by_turn low high
-      (λ stop. rw (halve-stop (suc turns) low high compared stop) (omega arith))
+      (λ stop. rw (halve_stop (suc turns) low high compared stop) (omega arith))
       (λ less e.
-      rw (halve-up turns low high compared less e)
-      (omega (arith, count-from turns (suc ((low + high) / 2)) high (suc compared) j (omega arith))))
+      rw (halve_up turns low high compared less e)
+      (omega (arith, count_from turns (suc ((low + high) / 2)) high (suc compared) j (omega arith))))
       (λ less e.
-      rw (halve-down turns low high compared less e) (omega (arith, count-from turns low ((low + high) / 2) (suc compared) j (omega arith))))
+      rw (halve_down turns low high compared less e) (omega (arith, count_from turns low ((low + high) / 2) (suc compared) j (omega arith))))
 
 -- ---- where it lands
 
@@ -88,7 +88,7 @@ module _ (at_most : ℕ → Bool) (n : ℕ) (ordered : (i j : ℕ) → i ≤ j �
   stops : (turns low high compared : ℕ) → high ≤ low → low ≤ n → ((i : ℕ) → i < low → at_most i ≡ true)
       → ((i : ℕ) → high ≤ i → i < n → at_most i ≡ false) → Lands at_most n (halve at_most turns low high compared).low
   stops turns low high compared stop inside below above =
-      rw (halve-stop at_most turns low high compared stop)
+      rw (halve_stop at_most turns low high compared stop)
       (record { inside = inside; below = below; above = λ i from lt. above i (omega arith) lt })
 
   -- all below `low` pass, none from `high` on does, and the turns suffice
@@ -99,16 +99,16 @@ module _ (at_most : ℕ → Bool) (n : ℕ) (ordered : (i j : ℕ) → i ≤ j �
       by_turn at_most low high
       (λ stop. stops (suc turns) low high compared stop (omega arith) below above)
       (λ less e.
-      rw (halve-up at_most turns low high compared less e)
+      rw (halve_up at_most turns low high compared less e)
       (lands-from turns (suc ((low + high) / 2)) high (suc compared) (omega arith) (omega arith) inside
       (λ i lt. ordered i ((low + high) / 2) (omega arith) (omega arith) e) above))
       (λ less e.
-      rw (halve-down at_most turns low high compared less e)
+      rw (halve_down at_most turns low high compared less e)
       (lands-from turns low ((low + high) / 2) (suc compared) (omega arith) (omega arith) (omega arith) below
-      (λ i from lt. unless-true (at_most i) (λ t. true≢false (sym (ordered ((low + high) / 2) i from lt t) ∙ e)))))
+      (λ i from lt. unless_true (at_most i) (λ t. true≢false (sym (ordered ((low + high) / 2) i from lt t) ∙ e)))))
 
-  pub halve-lands : Lands at_most n (halve at_most n 0 n 0).low
-  halve-lands =
+  pub halve_lands : Lands at_most n (halve at_most n 0 n 0).low
+  halve_lands =
       lands-from n 0 n 0 (omega arith) (omega arith) (omega arith) (λ i lt. absurd (omega arith)) (λ i from lt. absurd (omega arith))
 
 -- ---- a list of functions
@@ -116,15 +116,15 @@ module _ (at_most : ℕ → Bool) (n : ℕ) (ordered : (i j : ℕ) → i ≤ j �
 module _ (d : ℤ) (fs : List Function) where
   pub count_none : length fs ≡ 0 → (landing d fs).compared ≡ 0
   unfolding landing
-  count_none none = rw (halve-stop (startsAtMost d fs) (length fs) 0 (length fs) 0 (omega arith))
+  count_none none = rw (halve_stop (starts_at_most d fs) (length fs) 0 (length fs) 0 (omega arith))
 
-  pub count-below : (j : ℕ) → length fs < 2 ^ j → (landing d fs).compared ≤ j
+  pub count_below : (j : ℕ) → length fs < 2 ^ j → (landing d fs).compared ≤ j
   unfolding landing
-  count-below j lt = omega (arith, count-from (startsAtMost d fs) (length fs) 0 (length fs) 0 j (omega arith))
+  count_below j lt = omega (arith, count_from (starts_at_most d fs) (length fs) 0 (length fs) 0 j (omega arith))
 
   -- at most 1 + the whole part of the logarithm of n to the base 2, which is j
-  pub count-log : (j : ℕ) → 2 ^ j ≤ length fs → length fs < 2 ^ (1 + j) → (landing d fs).compared ≤ 1 + j
-  count-log j least most = count-below (1 + j) most
+  pub count_log : (j : ℕ) → 2 ^ j ≤ length fs → length fs < 2 ^ (1 + j) → (landing d fs).compared ≤ 1 + j
+  count_log j least most = count_below (1 + j) most
 
-  pub count-twenty : length fs ≤ 838859 → (landing d fs).compared ≤ 20
-  count-twenty few = count-below 20 (omega arith)
+  pub count_twenty : length fs ≤ 838859 → (landing d fs).compared ≤ 20
+  count_twenty few = count_below 20 (omega arith)

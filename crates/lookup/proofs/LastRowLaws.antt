@@ -10,54 +10,54 @@ use native.Mathlib.Omega.{arith}
 use borrow.Author.Tests.{le-leb, lt-leb}
 use Rattle.section.specs.Meaning.{listed}
 use Rattle.section.specs.declared.row.Row.{Row}
-use Rattle.accept.proofs.Decides.{not-below, by-test}
-use Rattle.lookup.specs.computed.Rows.{or_else, lastRow}
-use Rattle.lookup.specs.inner.Search.{leading}
+use Rattle.accept.proofs.Decides.{not_below, by_test_lem}
+use Rattle.lookup.specs.Computed.Rows.{or_else, last_row}
+use Rattle.lookup.specs.Inner.Search.{leading}
 use Rattle.lookup.specs.declared.rows.Scan.TheVariants.{Missed, Hit}
 
 -- ---- one more row in front
 
 module _ (o k : ℕ) (row : Row) (rows : List Row) where
-  row-later : (later : Row) (j : ℕ) → lastRow o (suc k) rows ≡ Hit later j → lastRow o k (row ∷ rows) ≡ Hit later j
-  unfolding lastRow or_else
+  row-later : (later : Row) (j : ℕ) → last_row o (suc k) rows ≡ Hit later j → last_row o k (row ∷ rows) ≡ Hit later j
+  unfolding last_row or_else
   row-later later j e = rw (e, or_else)
 
-  row_here : row.start ≤ o → lastRow o (suc k) rows ≡ Missed → lastRow o k (row ∷ rows) ≡ Hit row k
-  unfolding lastRow or_else
+  row_here : row.start ≤ o → last_row o (suc k) rows ≡ Missed → last_row o k (row ∷ rows) ≡ Hit row k
+  unfolding last_row or_else
   row_here le e = rw e (rw (le-leb row.start o le))
 
-  row-above : o < row.start → lastRow o (suc k) rows ≡ Missed → lastRow o k (row ∷ rows) ≡ Missed
-  unfolding lastRow or_else
+  row-above : o < row.start → last_row o (suc k) rows ≡ Missed → last_row o k (row ∷ rows) ≡ Missed
+  unfolding last_row or_else
   row-above lt e = rw e (rw (lt-leb row.start o lt))
 
 -- ---- the rows that a function makes, from one number on
 
 module _ (o : ℕ) (f : ℕ → Row) where
-  pub last_none : (count from : ℕ) → ((j : ℕ) → from ≤ j → j < from + count → o < (f j).start) → lastRow o from (listed f count from) ≡ Missed
-  unfolding listed lastRow
+  pub last_none : (count from : ℕ) → ((j : ℕ) → from ≤ j → j < from + count → o < (f j).start) → last_row o from (listed f count from) ≡ Missed
+  unfolding listed last_row
   last_none zero from above = refl
   last_none (suc count) from above =
       row-above o from (f from) (listed f count (suc from)) (above from (omega arith) (omega arith))
       (last_none count (suc from) (λ j le lt. above j (omega arith) (omega arith)))
 
-  pub last-is : (count from k : ℕ) → from ≤ k → k < from + count → (f k).start ≤ o → ((j : ℕ) → k < j → j < from + count → o < (f j).start)
-      → lastRow o from (listed f count from) ≡ Hit (f k) k
+  pub last_is : (count from k : ℕ) → from ≤ k → k < from + count → (f k).start ≤ o → ((j : ℕ) → k < j → j < from + count → o < (f j).start)
+      → last_row o from (listed f count from) ≡ Hit (f k) k
   unfolding listed
-  last-is zero from k le lt here above = absurd (omega arith)
-  last-is (suc count) from k le lt here above =
+  last_is zero from k le lt here above = absurd (omega arith)
+  last_is (suc count) from k le lt here above =
       let rows = listed f count (suc from) in
       ⊎_elim
       (λ same.
       let none = last_none count (suc from) (λ j le lt. above j (omega arith) (omega arith)) in
       rw (← same) (row_here o from (f from) rows (rw same here) none))
-      (λ less. row-later o from (f from) rows (f k) k (last-is count (suc from) k less (omega arith) here (λ j lt inside. above j lt (omega arith))))
+      (λ less. row-later o from (f from) rows (f k) k (last_is count (suc from) k less (omega arith) here (λ j lt inside. above j lt (omega arith))))
       (eq-or-lt_of_le le)
 
 -- ---- one of the two holds
 
 -- what holds at a number, and above it
-from-here : {P : ℕ → Type 0} (k : ℕ) → P k → ((j : ℕ) → k < j → P j) → (j : ℕ) → k ≤ j → P j
-from-here {P} k here later j le = ⊎_elim (λ same. subst P same here) (later j) (eq-or-lt_of_le le)
+from_here : {P : ℕ → Type 0} (k : ℕ) → P k → ((j : ℕ) → k < j → P j) → (j : ℕ) → k ≤ j → P j
+from_here {P} k here later j le = ⊎_elim (λ same. subst P same here) (later j) (eq-or-lt_of_le le)
 
 module _ (start : ℕ → ℕ) (o : ℕ) where
   -- of the `count` starts from one number on, none is at or below o; or number k has the last that is
@@ -67,29 +67,29 @@ module _ (start : ℕ → ℕ) (o : ℕ) where
   abbrev pub LastAt : ℕ → ℕ → ℕ → Type 0
   LastAt count from k = (from ≤ k) × (k < from + count) × (start k ≤ o) × ((j : ℕ) → k < j → j < from + count → o < start j)
 
-  pub row-cases : (count from : ℕ) → AllAbove count from ⊎ ((k : ℕ) × LastAt count from k)
-  row-cases zero from = inl (λ j le lt. absurd (omega arith))
-  row-cases (suc count) from =
+  pub row_cases : (count from : ℕ) → AllAbove count from ⊎ ((k : ℕ) × LastAt count from k)
+  row_cases zero from = inl (λ j le lt. absurd (omega arith))
+  row_cases (suc count) from =
       ⊎_elim
       (λ above.
-      by-test (not-below o (start from))
-      (λ here. inl (from-here from (λ lt. omega arith) (λ j lt inside. above j lt (omega arith))))
+      by_test_lem (not_below o (start from))
+      (λ here. inl (from_here from (λ lt. omega arith) (λ j lt inside. above j lt (omega arith))))
       (λ here. inr (from, (omega arith, omega arith, here, λ j lt inside. above j lt (omega arith)))))
       (λ last.
       let (k, (le, lt, here, above)) = last in
       inr (k, (omega arith, omega arith, here, λ j lt inside. above j lt (omega arith))))
-      (row-cases count (suc from))
+      (row_cases count (suc from))
 
 -- ---- a scan from the first row on, that stops at the first start above o
 
 module _ (start : ℕ → ℕ) (o : ℕ) where
-  pub leading-on : (left k : ℕ) → start k ≤ o → leading start o (suc left) k ≡ leading start o left (suc k)
+  pub leading_on : (left k : ℕ) → start k ≤ o → leading start o (suc left) k ≡ leading start o left (suc k)
   unfolding leading
-  leading-on left k le = rw (le-leb (start k) o le, leading)
+  leading_on left k le = rw (le-leb (start k) o le, leading)
 
-  pub leading-stop : (left k : ℕ) → o < start k → leading start o (suc left) k ≡ k
+  pub leading_stop : (left k : ℕ) → o < start k → leading start o (suc left) k ≡ k
   unfolding leading
-  leading-stop left k lt = rw (lt-leb (start k) o lt, leading)
+  leading_stop left k lt = rw (lt-leb (start k) o lt, leading)
 
   -- of `count` starts, from number k on, those below number n are at or below o, and number n, if there is one, is above it
   pub record Halts (count k n : ℕ) : Type 0 where
@@ -104,15 +104,15 @@ module _ (start : ℕ → ℕ) (o : ℕ) where
   halts-from count zero k e =
       record { from = omega arith; within = omega arith; below = λ j le lt. absurd (omega arith); stop = λ lt. absurd (omega arith) }
   halts-from count (suc left) k e =
-      by-test (not-below o (start k))
+      by_test_lem (not_below o (start k))
       (λ above.
       let lt : o < start k = omega arith in
-      rw (leading-stop left k lt)
+      rw (leading_stop left k lt)
       (record { from = omega arith; within = omega arith; below = λ j le less. absurd (omega arith); stop = λ less. lt }))
       (λ here.
       let rest = halts-from count left (suc k) (omega arith) in
-      rw (leading-on left k here)
-      (record { from = omega arith; within = rest.within; below = from-here k (λ lt. here) rest.below; stop = rest.stop }))
+      rw (leading_on left k here)
+      (record { from = omega arith; within = rest.within; below = from_here k (λ lt. here) rest.below; stop = rest.stop }))
 
   pub halts : (count : ℕ) → Halts count 0 (leading start o count 0)
   halts count = halts-from count count 0 (omega arith)
@@ -122,15 +122,15 @@ module _ (start : ℕ → ℕ) (o : ℕ) where
   halts-here count zero k n e h = omega arith
   halts-here count (suc left) k n e h =
       ⊎_elim
-      (λ same. leading-stop left k (rw same (h.stop (omega arith))) ∙ same)
+      (λ same. leading_stop left k (rw same (h.stop (omega arith))) ∙ same)
       (λ less.
-      leading-on left k (h.below k (omega arith) less)
+      leading_on left k (h.below k (omega arith) less)
       ∙ halts-here count left (suc k) n (omega arith)
       (record { from = less; within = h.within; below = λ j le lt. h.below j (omega arith) lt; stop = h.stop }))
       (eq-or-lt_of_le h.from)
 
-  pub halts-alone : (count n : ℕ) → Halts count 0 n → leading start o count 0 ≡ n
-  halts-alone count n h = halts-here count count 0 n (omega arith) h
+  pub halts_alone : (count n : ℕ) → Halts count 0 n → leading start o count 0 ≡ n
+  halts_alone count n h = halts-here count count 0 n (omega arith) h
 
   -- where starts rise, all others are above o too
   pub record Leads (count k n : ℕ) : Type 0 where
@@ -148,19 +148,19 @@ module _ (start : ℕ → ℕ) (o : ℕ) where
           from = scan.from;
           within = scan.within;
           below = scan.below;
-          past = from-here end scan.stop (λ j less inside. omega (arith, rising end j less inside, scan.stop (omega arith)));
+          past = from_here end scan.stop (λ j less inside. omega (arith, rising end j less inside, scan.stop (omega arith)));
         }
 
     -- so it ends one past the last row at or below o, for rows with these starts
     module _ (f : ℕ → Row) (same : (k : ℕ) → k < count → start k ≡ (f k).start) where
-      pub leading-none : leading start o count 0 ≡ 0 → lastRow o 0 (listed f count 0) ≡ Missed
-      leading-none e = last_none o f count 0 (λ j le lt. omega (arith, same j (omega arith), leads.past j (omega arith) (omega arith)))
+      pub leading_none : leading start o count 0 ≡ 0 → last_row o 0 (listed f count 0) ≡ Missed
+      leading_none e = last_none o f count 0 (λ j le lt. omega (arith, same j (omega arith), leads.past j (omega arith) (omega arith)))
 
-      pub leading-last : 0 < leading start o count 0
-          → lastRow o 0 (listed f count 0) ≡ Hit (f (leading start o count 0 - 1)) (leading start o count 0 - 1)
-      leading-last lt =
+      pub leading_last : 0 < leading start o count 0
+          → last_row o 0 (listed f count 0) ≡ Hit (f (leading start o count 0 - 1)) (leading start o count 0 - 1)
+      leading_last lt =
           let last = leading start o count 0 - 1 in
           let inside : last < count = omega (arith, leads.within) in
-          last-is o f count 0 last (omega arith) (omega arith)
+          last_is o f count 0 last (omega arith) (omega arith)
           (omega (arith, same last inside, leads.below last (omega arith) (omega arith)))
           (λ j less lt. omega (arith, same j (omega arith), leads.past j (omega arith) (omega arith)))

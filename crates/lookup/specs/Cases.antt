@@ -1,11 +1,11 @@
 -- When each answer is given (SPECIFICATION 4.1 to 4.7), as plain propositions over an accepted section s and d, "PC minus section
 -- address": nothing here says how a function or a row is looked for.
 use Rattle.std.specs.Prelude.{◌≡◌, List, ℕ, ◌+◌, ◌*◌, ◌≤◌, ◌<◌, ℤ, pos, ◌+ℤ◌, ◌≤ℤ◌, ◌<ℤ◌}
-use Rattle.section.specs.Meaning.{Block, plain, repeated, areaOf, shape_of, entryIn, block_of, functionStart, functionEnd, row_in}
+use Rattle.section.specs.Meaning.{Block, plain, repeated, area_of, shape_of, entry_in, block_of, function_start, function_end, row_in}
 use Rattle.section.specs.declared.row.Row.{Row}
 use Rattle.accept.specs.Given.{BrokenFirst}
-use Rattle.accept.specs.Rules.{Obeys, functionCount, rowCount, rowStartAt}
-use Rattle.lookup.specs.Numbers.{Unfound, noFunction, dispute, no_row, LookupCause, unsound, unfound}
+use Rattle.accept.specs.Rules.{Obeys, function_count, row_count, row_start_at}
+use Rattle.lookup.specs.Numbers.{Unfound, no_function, dispute, no_row, LookupCause, unsound, unfound}
 use Rattle.lookup.specs.declared.answer.Outcome.{Outcome}
 use Rattle.lookup.specs.declared.answer.Outcome.TheVariants.{Found, Unsound, NoFunction, Dispute, NoRow}
 
@@ -13,7 +13,7 @@ use Rattle.lookup.specs.declared.answer.Outcome.TheVariants.{Found, Unsound, NoF
 
 -- function i covers: "start <= d < start + size"
 abbrev pub Covers : List ℕ → ℤ → ℕ → Type 0
-Covers s d i = (i < functionCount s) × (functionStart s i ≤ℤ d) × (d <ℤ functionEnd s i)
+Covers s d i = (i < function_count s) × (function_start s i ≤ℤ d) × (d <ℤ function_end s i)
 
 -- "no function covers"
 abbrev pub NoneCovers : List ℕ → ℤ → Type 0
@@ -41,12 +41,12 @@ Leaves (repeated size) past o = (o < size) × ((times : ℕ) × (past ≡ times 
 -- o is the offset of d in function i
 pub record OffsetIs (s : List ℕ) (d : ℤ) (i o : ℕ) : Type 0 where
   pub past : ℕ
-  pub past_is : d ≡ (functionStart s i +ℤ pos past)
-  pub leaves : Leaves (block_of (entryIn s i)) past o
+  pub past_is : d ≡ (function_start s i +ℤ pos past)
+  pub leaves : Leaves (block_of (entry_in s i)) past o
 
 -- the start of row k of function i "is at most o"
 abbrev pub AtMost : List ℕ → ℕ → ℕ → ℕ → Type 0
-AtMost s i o k = (k < rowCount s i) × (rowStartAt s i k ≤ o)
+AtMost s i o k = (k < row_count s i) × (row_start_at s i k ≤ o)
 
 -- "the last whose start is at most o" is row k
 abbrev pub LastAtMost : List ℕ → ℕ → ℕ → ℕ → Type 0
@@ -57,8 +57,8 @@ abbrev pub NoneAtMost : List ℕ → ℕ → ℕ → Type 0
 NoneAtMost s i o = (k : ℕ) → ¬ AtMost s i o k
 
 -- row k of function i
-abbrev pub rowOfFunction : List ℕ → ℕ → ℕ → Row
-rowOfFunction s i k = row_in (areaOf s) (shape_of s) (entryIn s i) k
+abbrev pub row_of_function : List ℕ → ℕ → ℕ → Row
+row_of_function s i k = row_in (area_of s) (shape_of s) (entry_in s i) k
 
 -- ---- the two answers that name one function
 
@@ -66,15 +66,15 @@ rowOfFunction s i k = row_in (areaOf s) (shape_of s) (entryIn s i) k
 pub record FoundCase (s : List ℕ) (d : ℤ) (row : Row) (i k : ℕ) : Type 0 where
   pub only : OnlyCovers s d i
   pub offset : ℕ
-  pub offset-is : OffsetIs s d i offset
+  pub offset_is : OffsetIs s d i offset
   pub last : LastAtMost s i offset k
-  pub row_is : row ≡ rowOfFunction s i k
+  pub row_is : row ≡ row_of_function s i k
 
 -- 23: one function covers, and it has no such row
 pub record NoRowCase (s : List ℕ) (d : ℤ) (i : ℕ) : Type 0 where
   pub only : OnlyCovers s d i
   pub offset : ℕ
-  pub offset-is : OffsetIs s d i offset
+  pub offset_is : OffsetIs s d i offset
   pub none : NoneAtMost s i offset
 
 -- ---- every answer
@@ -91,7 +91,7 @@ Case s d (NoRow i) = NoRowCase s d i
 
 -- what holds of an accepted section and d where nothing is found for this reason
 abbrev pub UnfoundCase : List ℕ → ℤ → Unfound → Type 0
-UnfoundCase s d noFunction = NoneCovers s d
+UnfoundCase s d no_function = NoneCovers s d
 UnfoundCase s d dispute = SomeTwoCover s d
 UnfoundCase s d no_row = (i : ℕ) × NoRowCase s d i
 

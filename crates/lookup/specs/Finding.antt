@@ -2,7 +2,7 @@
 -- know a section through this alone, and it is what does not depend on the order in which a section lists its functions.
 use Rattle.std.specs.Prelude.{ℕ}
 use Rattle.section.specs.declared.row.Row.{Row}
-use Rattle.lookup.specs.Numbers.{noFunction, dispute, no_row, numberOfUnfound}
+use Rattle.lookup.specs.Numbers.{no_function, dispute, no_row, number_of_unfound}
 use Rattle.lookup.specs.declared.answer.Outcome.{Outcome}
 use Rattle.lookup.specs.declared.answer.Outcome.TheVariants.{Found, Unsound, NoFunction, Dispute, NoRow}
 
@@ -10,9 +10,9 @@ pub data Finding : Type 0 where
   finds : Row → ℕ → Finding
   refuses : ℕ → Finding
 
-unfoldable pub findingOf : Outcome → Finding
-findingOf (Found row function number) = finds row number
-findingOf (Unsound number index) = refuses number
-findingOf NoFunction = refuses (numberOfUnfound noFunction)
-findingOf (Dispute first second) = refuses (numberOfUnfound dispute)
-findingOf (NoRow function) = refuses (numberOfUnfound no_row)
+unfoldable pub finding_of : Outcome → Finding
+finding_of (Found row function number) = finds row number
+finding_of (Unsound number index) = refuses number
+finding_of NoFunction = refuses (number_of_unfound no_function)
+finding_of (Dispute first second) = refuses (number_of_unfound dispute)
+finding_of (NoRow function) = refuses (number_of_unfound no_row)

@@ -3,5 +3,5 @@ pub mod Finding
 pub mod Halving
 pub mod Numbers
 pub mod Scanned
-pub mod computed
-pub mod inner
+pub mod Computed
+pub mod Inner

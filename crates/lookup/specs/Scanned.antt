@@ -6,13 +6,13 @@ use Rattle.numbers.specs.Agree.{InSpan, AgreeOn}
 use Rattle.numbers.specs.declared.field.Order.{Order}
 use Rattle.section.specs.Entry.{type_of}
 use Rattle.section.specs.Header.{layout_of}
-use Rattle.section.specs.Meaning.{areaOf, shape_of, entryIn}
-use Rattle.section.specs.Row.{rowLength, rowPlace, rowStart}
+use Rattle.section.specs.Meaning.{area_of, shape_of, entry_in}
+use Rattle.section.specs.Row.{row_length, row_place, row_start}
 use Rattle.lookup.specs.Cases.{Covers, OffsetIs}
 
 -- where row k starts in the code that it describes
 abbrev pub start_in : List ℕ → Order → ℕ → ℕ → ℕ → ℕ
-start_in area order code first k = rowStart area order code (rowPlace area code first k)
+start_in area order code first k = row_start area order code (row_place area code first k)
 
 -- row k is passed: it and every row before it start at or below o
 abbrev pub RowPassed : List ℕ → Order → ℕ → ℕ → ℕ → ℕ → ℕ → Type 0
@@ -31,13 +31,13 @@ StopsAt area order code first count o k =
 -- byte p of the row area is looked at
 pub data LookedAt (area : List ℕ) (order : Order) (code first count o p : ℕ) : Type 0 where
   -- of each row passed: its start and its info byte, which tells its length
-  of-passed : (k : ℕ) → RowPassed area order code first count o k → InSpan (rowPlace area code first k) (2 ^ code + 1) p
+  of-passed : (k : ℕ) → RowPassed area order code first count o k → InSpan (row_place area code first k) (2 ^ code + 1) p
       → LookedAt area order code first count o p
   -- of the row found: all
   of-found : (k : ℕ) → LastPassed area order code first count o k
-      → InSpan (rowPlace area code first k) (rowLength area code (rowPlace area code first k)) p → LookedAt area order code first count o p
+      → InSpan (row_place area code first k) (row_length area code (row_place area code first k)) p → LookedAt area order code first count o p
   -- of the row that it stops at: its start
-  of-stop : (k : ℕ) → StopsAt area order code first count o k → InSpan (rowPlace area code first k) (2 ^ code) p
+  of-stop : (k : ℕ) → StopsAt area order code first count o k → InSpan (row_place area code first k) (2 ^ code) p
       → LookedAt area order code first count o p
 
 -- ---- a whole section
@@ -48,4 +48,4 @@ pub record LookAlike (s t : List ℕ) (d : ℤ) : Type 0 where
   pub header : AgreeOn (InSpan 0 28) s t
   pub table : AgreeOn (InSpan (layout_of s).table (20 * (layout_of s).functions)) s t
   pub rows : (i o : ℕ) → Covers s d i → OffsetIs s d i o
-      → AgreeOn (LookedAt (areaOf s) (shape_of s).order (type_of (entryIn s i).info) (entryIn s i).first (entryIn s i).rows o) (areaOf s) (areaOf t)
+      → AgreeOn (LookedAt (area_of s) (shape_of s).order (type_of (entry_in s i).info) (entry_in s i).first (entry_in s i).rows o) (area_of s) (area_of t)

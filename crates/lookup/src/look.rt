@@ -2,11 +2,11 @@
 ghost use Rattle.std.specs.Prelude.{true, ◌≡◌, ◌<◌, ◌%◌};
 ghost use Rattle.numbers.specs.Start.{distance};
 ghost use Rattle.section.specs.Entry.{repeats};
-ghost use Rattle.section.specs.Meaning.{block_of, functionIn, functionsOf};
-ghost use Rattle.lookup.specs.computed.Answers.{with_row, withCover, answer_of, lookupOf};
-ghost use Rattle.lookup.specs.computed.Covering.{covering, coverOf};
-ghost use Rattle.lookup.specs.computed.Rows.{in_block, rowFor};
-ghost use Rattle.lookup.specs.inner.Requires.{AcceptedOf, RowAsked};
+ghost use Rattle.section.specs.Meaning.{block_of, function_in, functions_of};
+ghost use Rattle.lookup.specs.Computed.Answers.{with_row, with_cover, answer_of, lookup_of};
+ghost use Rattle.lookup.specs.Computed.Covering.{covering, cover_of};
+ghost use Rattle.lookup.specs.Computed.Rows.{in_block, row_for};
+ghost use Rattle.lookup.specs.Inner.Requires.{AcceptedOf, RowAsked};
 
 use crate::answer::{Answer, Outcome};
 use crate::rows::{Scan, scan_rows};
@@ -41,7 +41,7 @@ pub fn block_offset(entry: Entry, past: u64) -> u64
 // The row of function i, which covers the PC.
 fn row_for(section: &[u8], layout: Layout, i: u64, address: u64, pc: u64) -> Scan
     requires { RowAsked section.now layout i (distance address pc) }
-    ensures { result ≡ rowFor (distance address pc) (functionIn section.now i) }
+    ensures { result ≡ row_for (distance address pc) (function_in section.now i) }
 {
     let entry = entry_in(section, layout, order_at(section), i);
     let past = near_of(address, pc) - start_of(layout.relative, entry);
@@ -69,8 +69,8 @@ fn with_row(function: u64, scan: Scan) -> Outcome
 }
 
 fn with_cover(section: &[u8], layout: Layout, cover: Cover, address: u64, pc: u64) -> Outcome
-    requires { AcceptedOf section.now layout × (cover ≡ coverOf (covering (distance address pc) (functionsOf section.now))) }
-    ensures { result ≡ withCover (distance address pc) (functionsOf section.now) cover }
+    requires { AcceptedOf section.now layout × (cover ≡ cover_of (covering (distance address pc) (functions_of section.now))) }
+    ensures { result ≡ with_cover (distance address pc) (functions_of section.now) cover }
 {
     match cover {
         Cover::Nobody => Outcome::NoFunction,
@@ -97,7 +97,7 @@ pub fn look(section: &[u8], layout: Layout, address: u64, pc: u64) -> Answer
 
 // The answer on any bytes: the section checks first.
 pub fn lookup(section: &[u8], address: u64, pc: u64) -> Answer
-    ensures { result ≡ lookupOf section.now address pc }
+    ensures { result ≡ lookup_of section.now address pc }
 {
     match check(section) {
         Verdict::Refused { number, index } => Answer {

@@ -2,12 +2,12 @@
 // lengths, and it alone is decoded.
 ghost use Rattle.std.specs.Prelude.{◌≡◌, ℕ, ◌+◌, ◌^◌, ◌≤◌, ◌<◌, length};
 ghost use Rattle.section.specs.Meaning.{listed, row_in};
-ghost use Rattle.section.specs.Row.{infoOf, rowPlace};
-ghost use Rattle.section.specs.inner.Reading.{Readable};
-ghost use Rattle.accept.specs.computed.Checks.{entryFault};
+ghost use Rattle.section.specs.Row.{info_of, row_place};
+ghost use Rattle.section.specs.Inner.Reading.{Readable};
+ghost use Rattle.accept.specs.Computed.Checks.{entry_fault};
 ghost use Rattle.accept.specs.declared.verdict.Fault.TheVariants.{Sound};
-ghost use Rattle.lookup.specs.computed.Rows.{lastRow};
-ghost use Rattle.lookup.specs.inner.Search.{startsBy, toldBy, stopOf};
+ghost use Rattle.lookup.specs.Computed.Rows.{last_row};
+ghost use Rattle.lookup.specs.Inner.Search.{starts_by, told_by, stop_of};
 
 use numbers::field::{Order, width_of};
 use section::entry::{Entry, type_of};
@@ -38,7 +38,7 @@ pub struct Told {
 // Whether the row at `at` starts at or below o.
 fn starts_by(area: &[u8], order: Order, code: usize, at: usize, o: u64) -> bool
     requires { (code ≤ 2) × (at + 2 ^ code ≤ length area.now) }
-    ensures { result ≡ startsBy area.now order code o at }
+    ensures { result ≡ starts_by area.now order code o at }
 {
     row_start_at(area, order, code, at) <= o
 }
@@ -46,7 +46,7 @@ fn starts_by(area: &[u8], order: Order, code: usize, at: usize, o: u64) -> bool
 // What an info byte that announces no offsets tells.
 fn no_offsets(code: usize) -> Told
     requires { code ≤ 2 }
-    ensures { result ≡ toldBy code 0 }
+    ensures { result ≡ told_by code 0 }
 {
     Told {
         info: 0,
@@ -57,8 +57,8 @@ fn no_offsets(code: usize) -> Told
 // What the info byte of the row at `at` tells. Where it is the one that is known, its length is not worked out again: the place of
 // the row behind then does not wait for this row's byte, since the processor guesses that it is the same.
 fn told_at(area: &[u8], code: usize, at: usize, known: Told) -> Told
-    requires { (code ≤ 2) × (at + 2 ^ code + 1 ≤ length area.now) × (known ≡ toldBy code known.info) }
-    ensures { result ≡ toldBy code (infoOf area.now code at) }
+    requires { (code ≤ 2) × (at + 2 ^ code + 1 ≤ length area.now) × (known ≡ told_by code known.info) }
+    ensures { result ≡ told_by code (info_of area.now code at) }
 {
     let info = info_at(area, code, at);
     if info == known.info {
@@ -72,8 +72,8 @@ fn told_at(area: &[u8], code: usize, at: usize, known: Told) -> Told
 
 // Passes the rows that start at or below o. Of each its start and its info byte are read, and of the row it stops at the start.
 fn pass_rows(area: &[u8], order: Order, code: usize, first: usize, count: u32, o: u64) -> Stop
-    requires { ((k : ℕ) → k < count → Readable area.now code (rowPlace area.now code first k)) × (code ≤ 2) }
-    ensures { result ≡ stopOf area.now order code first count o }
+    requires { ((k : ℕ) → k < count → Readable area.now code (row_place area.now code first k)) × (code ≤ 2) }
+    ensures { result ≡ stop_of area.now order code first count o }
 {
     let mut place = first;
     let mut at = first;
@@ -99,8 +99,8 @@ fn pass_rows(area: &[u8], order: Order, code: usize, first: usize, count: u32, o
 
 // The rows by their type, told apart outside the loop, so that each loop is compiled for its own width of start.
 fn stop_at(area: &[u8], order: Order, code: usize, first: usize, count: u32, o: u64) -> Stop
-    requires { ((k : ℕ) → k < count → Readable area.now code (rowPlace area.now code first k)) × (code ≤ 2) }
-    ensures { result ≡ stopOf area.now order code first count o }
+    requires { ((k : ℕ) → k < count → Readable area.now code (row_place area.now code first k)) × (code ≤ 2) }
+    ensures { result ≡ stop_of area.now order code first count o }
 {
     match code {
         0 => pass_rows(area, order, 0, first, count, o),
@@ -111,8 +111,8 @@ fn stop_at(area: &[u8], order: Order, code: usize, first: usize, count: u32, o: 
 
 // The last row of an entry that starts at or below o.
 pub fn scan_rows(area: &[u8], shape: Shape, entry: Entry, o: u64) -> Scan
-    requires { entryFault area.now shape entry ≡ Sound }
-    ensures { result ≡ lastRow o 0 (listed (row_in area.now shape entry) entry.rows 0) }
+    requires { entry_fault area.now shape entry ≡ Sound }
+    ensures { result ≡ last_row o 0 (listed (row_in area.now shape entry) entry.rows 0) }
 {
     let order = shape.order;
     let code = type_of(entry.info);

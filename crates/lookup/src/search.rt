@@ -2,14 +2,14 @@
 // halved. Only a sound header is asked for.
 ghost use Rattle.std.specs.Prelude.{◌&&◌, ◌≡◌, ◌+◌, ◌-◌, ◌^◌, ◌≤◌, ◌<◌, ℤ, pos, ◌+ℤ◌};
 ghost use Rattle.std.specs.Int.Signed.{le_z, lt_z};
-ghost use Rattle.lookup.specs.computed.Covering.{covers, covering, coverOf};
+ghost use Rattle.lookup.specs.Computed.Covering.{covers, covering, cover_of};
 ghost use Rattle.lookup.specs.Halving.{landing};
-ghost use Rattle.lookup.specs.inner.Requires.{TableOf, HeaderOf};
-ghost use Rattle.lookup.specs.inner.Search.{pastStart, pastIn, firstWhere, landedOn, searchOf};
-ghost use Rattle.numbers.specs.inner.Held.{Held, Near};
+ghost use Rattle.lookup.specs.Inner.Requires.{TableOf, HeaderOf};
+ghost use Rattle.lookup.specs.Inner.Search.{past_start, past_in, first_where, landed_on, search_of};
+ghost use Rattle.numbers.specs.Inner.Held.{Held, Near};
 ghost use Rattle.numbers.specs.Start.{distance};
-ghost use Rattle.section.specs.Entry.{positionAt};
-ghost use Rattle.section.specs.Meaning.{Function, entryIn, functionIn, functionsOf, functionStart};
+ghost use Rattle.section.specs.Entry.{position_at};
+ghost use Rattle.section.specs.Meaning.{Function, entry_in, function_in, functions_of, function_start};
 
 use numbers::field::{Order, u32_at};
 use numbers::held::{near_of, rank_of};
@@ -51,7 +51,7 @@ pub enum Past {
 
 // What the start field at a place counts from: that place under flag 0x4, else the section.
 fn position_at(relative: bool, at: usize) -> usize
-    ensures value { result ≡ positionAt relative at }
+    ensures value { result ≡ position_at relative at }
     ensures range { result ≤ at }
 {
     if relative {
@@ -63,7 +63,7 @@ fn position_at(relative: bool, at: usize) -> usize
 // How far the start of function i is above the least field, -2^31. Of its entry only the start field is read.
 fn rank_at(section: &[u8], layout: Layout, order: Order, i: u64) -> u64
     requires { TableOf section.now layout order × (i < layout.functions) }
-    ensures { Held (functionStart section.now i) (result + 2 ^ 31) }
+    ensures { Held (function_start section.now i) (result + 2 ^ 31) }
 {
     let at = (layout.table + 20 * i) as usize;
     rank_of(u32_at(section, at, order)) + position_at(layout.relative, at) as u64
@@ -72,7 +72,7 @@ fn rank_at(section: &[u8], layout: Layout, order: Order, i: u64) -> u64
 // The size of function i. Of its entry only this field is read.
 fn size_at(section: &[u8], layout: Layout, order: Order, i: u64) -> u32
     requires { TableOf section.now layout order × (i < layout.functions) }
-    ensures { result ≡ (entryIn section.now i).size }
+    ensures { result ≡ (entry_in section.now i).size }
 {
     let at = (layout.table + 20 * i) as usize;
     u32_at(section, at + 4, order)
@@ -83,7 +83,7 @@ fn size_at(section: &[u8], layout: Layout, order: Order, i: u64) -> u32
 // How far d is past a start. Before the start it is 2^64 less what is missing, farther than any size, so that one comparison
 // with a size tells whether a function covers; it compiles to one subtraction.
 fn past_start(start: u64, d: u64) -> u64
-    ensures { result ≡ pastStart start d }
+    ensures { result ≡ past_start start d }
 {
     if start <= d {
         return d - start;
@@ -104,7 +104,7 @@ fn is_within(start: u64, size: u32, d: u64) -> bool
 // Whether function i covers.
 fn covers_at(section: &[u8], layout: Layout, order: Order, i: u64, d: u64) -> bool
     requires { TableOf section.now layout order × (i < layout.functions) }
-    ensures { (z : ℤ) → Near z d → result ≡ covers z (functionIn section.now i) }
+    ensures { (z : ℤ) → Near z d → result ≡ covers z (function_in section.now i) }
 {
     let start = rank_at(section, layout, order, i) + LEAST;
     is_within(start, size_at(section, layout, order, i), d)
@@ -113,7 +113,7 @@ fn covers_at(section: &[u8], layout: Layout, order: Order, i: u64, d: u64) -> bo
 // The first function from index `from` on that covers, and one past the last where none does.
 fn next_covering(section: &[u8], layout: Layout, order: Order, d: u64, from: u64) -> u64
     requires { TableOf section.now layout order × (from ≤ layout.functions) }
-    ensures value { (z : ℤ) → Near z d → result ≡ firstWhere (λ i. covers z (functionIn section.now i)) (layout.functions - from) from }
+    ensures value { (z : ℤ) → Near z d → result ≡ first_where (λ i. covers z (function_in section.now i)) (layout.functions - from) from }
     ensures range { result ≤ layout.functions }
 {
     let mut i = from;
@@ -129,7 +129,7 @@ fn next_covering(section: &[u8], layout: Layout, order: Order, d: u64, from: u64
 // The lowest two that cover, if so many do.
 fn scan(section: &[u8], layout: Layout, order: Order, d: u64) -> Cover
     requires { TableOf section.now layout order }
-    ensures { (z : ℤ) → Near z d → result ≡ coverOf (covering z (functionsOf section.now)) }
+    ensures { (z : ℤ) → Near z d → result ≡ cover_of (covering z (functions_of section.now)) }
 {
     let first = next_covering(section, layout, order, d, 0);
     if first == layout.functions as u64 {
@@ -157,7 +157,7 @@ fn bound_of(d: u64) -> u64
 // The halving rule over all entries.
 fn halve(section: &[u8], layout: Layout, order: Order, d: u64) -> Landing
     requires { TableOf section.now layout order }
-    ensures value { (z : ℤ) → Near z d → result ≡ landing z (functionsOf section.now) }
+    ensures value { (z : ℤ) → Near z d → result ≡ landing z (functions_of section.now) }
     ensures range { result.low ≤ layout.functions }
 {
     let bound = bound_of(d);
@@ -182,7 +182,7 @@ fn halve(section: &[u8], layout: Layout, order: Order, d: u64) -> Landing
 // Whether the function landed on, the one before `low`, covers. In a sorted section no other one can.
 fn landed_on(section: &[u8], layout: Layout, order: Order, low: u64, d: u64) -> Cover
     requires { TableOf section.now layout order × (low ≤ layout.functions) }
-    ensures { (z : ℤ) → Near z d → result ≡ landedOn z (functionsOf section.now) low }
+    ensures { (z : ℤ) → Near z d → result ≡ landed_on z (functions_of section.now) low }
 {
     if low == 0 {
         return Cover::Nobody;
@@ -197,7 +197,7 @@ fn landed_on(section: &[u8], layout: Layout, order: Order, low: u64, d: u64) -> 
 // caller would keep that loop from being compiled into a lookup, and a trace makes one for each frame.
 pub fn land(section: &[u8], layout: Layout, address: u64, pc: u64) -> Landing
     requires { HeaderOf section.now layout }
-    ensures value { result ≡ landing (distance address pc) (functionsOf section.now) }
+    ensures value { result ≡ landing (distance address pc) (functions_of section.now) }
     ensures range { result.low ≤ layout.functions }
 {
     let order = order_at(section);
@@ -222,7 +222,7 @@ pub fn land(section: &[u8], layout: Layout, address: u64, pc: u64) -> Landing
 
 // How far d is past a start, where a function of this size covers; the start and d are held.
 fn past_within(start: u64, size: u32, d: u64) -> Past
-    ensures { (f : Function) (z : ℤ) → Held f.start start → Near z d → f.size ≡ size → result ≡ pastIn z f }
+    ensures { (f : Function) (z : ℤ) → Held f.start start → Near z d → f.size ≡ size → result ≡ past_in z f }
 {
     let past = past_start(start, d);
     if past < size as u64 {
@@ -234,7 +234,7 @@ fn past_within(start: u64, size: u32, d: u64) -> Past
 // How far a PC is past the start of function i, where that covers it.
 pub fn past_in(section: &[u8], layout: Layout, i: u64, address: u64, pc: u64) -> Past
     requires { HeaderOf section.now layout × (i < layout.functions) }
-    ensures { result ≡ pastIn (distance address pc) (functionIn section.now i) }
+    ensures { result ≡ past_in (distance address pc) (function_in section.now i) }
 {
     let order = order_at(section);
     let start = rank_at(section, layout, order, i) + LEAST;
@@ -248,7 +248,7 @@ pub fn past_in(section: &[u8], layout: Layout, i: u64, address: u64, pc: u64) ->
 // The covering function for a PC: a sorted section is halved, any other is scanned.
 pub fn find(section: &[u8], layout: Layout, address: u64, pc: u64) -> Search
     requires { HeaderOf section.now layout }
-    ensures { result ≡ searchOf layout.sorted (distance address pc) (functionsOf section.now) }
+    ensures { result ≡ search_of layout.sorted (distance address pc) (functions_of section.now) }
 {
     let order = order_at(section);
     let d = near_of(address, pc);

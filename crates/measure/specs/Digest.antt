@@ -1,6 +1,6 @@
 -- What the benchmark's library answers: the verdict, and a digest of all answers, each folded in by its weight.
 use Rattle.std.specs.Prelude.{ℕ, ◌+◌, ◌*◌, ◌^◌, ◌%◌, Bool, true, false, List, [], ◌∷◌}
-use Rattle.numbers.specs.inner.Shift.{shift_of}
+use Rattle.numbers.specs.Inner.Shift.{shift_of}
 use Rattle.numbers.specs.declared.offset.Offset.{Offset}
 use Rattle.numbers.specs.declared.offset.Shift.{Shift}
 use Rattle.numbers.specs.declared.offset.Shift.TheVariants.{Up, Down}
@@ -9,10 +9,10 @@ use Rattle.section.specs.declared.row.Base.TheVariants.{Fp, Sp}
 use Rattle.section.specs.declared.row.Place.{Place}
 use Rattle.section.specs.declared.row.Place.TheVariants.{Register, AtOffset}
 use Rattle.section.specs.declared.row.Row.{Row}
-use Rattle.accept.specs.computed.Checks.{verdict}
+use Rattle.accept.specs.Computed.Checks.{verdict}
 use Rattle.accept.specs.declared.verdict.Verdict.{Verdict}
 use Rattle.accept.specs.declared.verdict.Verdict.TheVariants.{Accepted, Refused}
-use Rattle.lookup.specs.computed.Answers.{answer_of}
+use Rattle.lookup.specs.Computed.Answers.{answer_of}
 use Rattle.lookup.specs.declared.answer.Answer.{Answer}
 use Rattle.lookup.specs.declared.answer.Outcome.{Outcome}
 use Rattle.lookup.specs.declared.answer.Outcome.TheVariants.{Found, Unsound, NoFunction, Dispute, NoRow}
@@ -22,45 +22,45 @@ use Rattle.measure.specs.declared.Measured.{Measured}
 unfoldable pub low : ℕ → ℕ
 low n = n % 2 ^ 32
 
-unfoldable pub shiftWeight : Shift → ℕ
-shiftWeight (Up k) = low k
-shiftWeight (Down k) = low k
+unfoldable pub shift_weight : Shift → ℕ
+shift_weight (Up k) = low k
+shift_weight (Down k) = low k
 
 unfoldable pub magnitude : Offset → ℕ
-magnitude offset = shiftWeight (shift_of offset.by)
+magnitude offset = shift_weight (shift_of offset.by)
 
-unfoldable pub placeWeight : Place → ℕ
-placeWeight Register = 0
-placeWeight (AtOffset offset) = magnitude offset
+unfoldable pub place_weight : Place → ℕ
+place_weight Register = 0
+place_weight (AtOffset offset) = magnitude offset
 
-unfoldable pub baseWeight : Base → ℕ
-baseWeight Fp = 0
-baseWeight Sp = 1
+unfoldable pub base_weight : Base → ℕ
+base_weight Fp = 0
+base_weight Sp = 1
 
-unfoldable pub flagWeight : Bool → ℕ
-flagWeight set = elim set [ true ↦ 1 | false ↦ 0 ]
+unfoldable pub flag_weight : Bool → ℕ
+flag_weight set = elim set [ true ↦ 1 | false ↦ 0 ]
 
-unfoldable pub rowWeight : Row → ℕ
-rowWeight row =
-    row.start + baseWeight row.base + magnitude row.cfa + placeWeight row.ra + placeWeight row.fp + flagWeight row.signed
+unfoldable pub row_weight : Row → ℕ
+row_weight row =
+    row.start + base_weight row.base + magnitude row.cfa + place_weight row.ra + place_weight row.fp + flag_weight row.signed
 
-unfoldable pub outcomeWeight : Outcome → ℕ
-outcomeWeight (Found row function number) = low function + low number + rowWeight row
-outcomeWeight (Unsound number index) = 0
-outcomeWeight NoFunction = 21
-outcomeWeight (Dispute first second) = 22 + low first + low second
-outcomeWeight (NoRow function) = 23 + low function
+unfoldable pub outcome_weight : Outcome → ℕ
+outcome_weight (Found row function number) = low function + low number + row_weight row
+outcome_weight (Unsound number index) = 0
+outcome_weight NoFunction = 21
+outcome_weight (Dispute first second) = 22 + low first + low second
+outcome_weight (NoRow function) = 23 + low function
 
 unfoldable pub weight : Answer → ℕ
-weight answer = low answer.compared + outcomeWeight answer.outcome
+weight answer = low answer.compared + outcome_weight answer.outcome
 
-unfoldable pub digestFrom : List ℕ → ℕ → ℕ → List ℕ → ℕ
-digestFrom s address digest [] = digest
-digestFrom s address digest (pc ∷ pcs) = digestFrom s address ((digest * 31 + weight (answer_of s address pc)) % 2 ^ 32) pcs
+unfoldable pub digest_from : List ℕ → ℕ → ℕ → List ℕ → ℕ
+digest_from s address digest [] = digest
+digest_from s address digest (pc ∷ pcs) = digest_from s address ((digest * 31 + weight (answer_of s address pc)) % 2 ^ 32) pcs
 
-unfoldable pub measuredBy : Verdict → ℕ → Measured
-measuredBy Accepted digest = record { number = 0; index = 0; digest = digest }
-measuredBy (Refused number index) digest = record { number = number; index = index; digest = 0 }
+unfoldable pub measured_by : Verdict → ℕ → Measured
+measured_by Accepted digest = record { number = 0; index = 0; digest = digest }
+measured_by (Refused number index) digest = record { number = number; index = index; digest = 0 }
 
-unfoldable pub measuredOf : List ℕ → ℕ → List ℕ → Measured
-measuredOf s address pcs = measuredBy (verdict s) (digestFrom s address 0 pcs)
+unfoldable pub measured_of : List ℕ → ℕ → List ℕ → Measured
+measured_of s address pcs = measured_by (verdict s) (digest_from s address 0 pcs)

@@ -1,8 +1,8 @@
 // For the benchmark alone: many lookups in a section that is checked once. It is a static library of its own, and no part of the
 // product's. What the lookups found goes into a digest, so that none of them can be left out.
 ghost use Rattle.std.specs.Prelude.{◌≡◌, ◌<◌, ◌*◌, ◌^◌};
-ghost use Rattle.lookup.specs.inner.Requires.{AcceptedOf};
-ghost use Rattle.measure.specs.Digest.{low, magnitude, placeWeight, baseWeight, flagWeight, rowWeight, outcomeWeight, weight, digestFrom, measuredOf};
+ghost use Rattle.lookup.specs.Inner.Requires.{AcceptedOf};
+ghost use Rattle.measure.specs.Digest.{low, magnitude, place_weight, base_weight, flag_weight, row_weight, outcome_weight, weight, digest_from, measured_of};
 
 use accept::section_check::check;
 use accept::verdict::Verdict;
@@ -39,7 +39,7 @@ pub fn magnitude_of(offset: Offset) -> u64
 }
 
 fn place_weight(place: Place) -> u64
-    ensures value { result ≡ placeWeight place }
+    ensures value { result ≡ place_weight place }
     ensures range { result < 2 ^ 32 }
 {
     match place {
@@ -49,7 +49,7 @@ fn place_weight(place: Place) -> u64
 }
 
 fn base_weight(base: Base) -> u64
-    ensures value { result ≡ baseWeight base }
+    ensures value { result ≡ base_weight base }
     ensures range { result < 2 ^ 32 }
 {
     match base {
@@ -59,7 +59,7 @@ fn base_weight(base: Base) -> u64
 }
 
 fn flag_weight(set: bool) -> u64
-    ensures value { result ≡ flagWeight set }
+    ensures value { result ≡ flag_weight set }
     ensures range { result < 2 ^ 32 }
 {
     if set {
@@ -69,7 +69,7 @@ fn flag_weight(set: bool) -> u64
 }
 
 pub fn row_weight(row: Row) -> u64
-    ensures value { result ≡ rowWeight row }
+    ensures value { result ≡ row_weight row }
     ensures range { result < 6 * 2 ^ 32 }
 {
     let base = row.base;
@@ -85,7 +85,7 @@ pub fn row_weight(row: Row) -> u64
 }
 
 fn outcome_weight(outcome: Outcome) -> u64
-    ensures value { result ≡ outcomeWeight outcome }
+    ensures value { result ≡ outcome_weight outcome }
     ensures range { result < 8 * 2 ^ 32 }
 {
     match outcome {
@@ -111,7 +111,7 @@ fn weight_of(answer: Answer) -> u64
 
 fn digest_of(section: &[u8], layout: Layout, address: u64, pcs: &[u64]) -> u64
     requires { AcceptedOf section.now layout }
-    ensures { result ≡ digestFrom section.now address 0 pcs.now }
+    ensures { result ≡ digest_from section.now address 0 pcs.now }
 {
     let mut digest = 0;
     let mut k = 0;
@@ -125,7 +125,7 @@ fn digest_of(section: &[u8], layout: Layout, address: u64, pcs: &[u64]) -> u64
 
 #[unsafe(no_mangle)]
 pub extern "C" fn measure_finds(section: &[u8], address: u64, pcs: &[u64]) -> Measured
-    ensures { result ≡ measuredOf section.now address pcs.now }
+    ensures { result ≡ measured_of section.now address pcs.now }
 {
     match check(section) {
         Verdict::Refused { number, index } => Measured {

@@ -1,8 +1,8 @@
 // For the benchmark alone: the whole listing of a section that is checked once. Its lines go into a digest, so that none of them can be
 // left out. It is a static library of its own, beside `measure`, so that each is compiled as a program that does one thing has it.
 ghost use Rattle.std.specs.Prelude.{◌≡◌, ◌<◌, ◌*◌, ◌^◌};
-ghost use Rattle.listing.specs.computed.Lines.{linesLeft};
-ghost use Rattle.measure_lines.specs.Listed.{kindWeight, functionWeight, lineWeight, digestLines, listed_of};
+ghost use Rattle.listing.specs.Computed.Lines.{lines_left};
+ghost use Rattle.measure_lines.specs.Listed.{kind_weight, function_weight, line_weight, digest_lines, listed_of};
 
 use accept::section_check::check;
 use accept::verdict::Verdict;
@@ -12,7 +12,7 @@ use measure::{Measured, low_of, magnitude_of, row_weight};
 use section::header::layout_at;
 
 fn kind_weight(kind: Kind) -> u64
-    ensures value { result ≡ kindWeight kind }
+    ensures value { result ≡ kind_weight kind }
     ensures range { result < 2 ^ 32 }
 {
     match kind {
@@ -22,7 +22,7 @@ fn kind_weight(kind: Kind) -> u64
 }
 
 fn function_weight(line: FunctionLine) -> u64
-    ensures value { result ≡ functionWeight line }
+    ensures value { result ≡ function_weight line }
     ensures range { result < 6 * 2 ^ 32 }
 {
     let start = line.start;
@@ -31,7 +31,7 @@ fn function_weight(line: FunctionLine) -> u64
 }
 
 fn line_weight(line: Line) -> u64
-    ensures value { result ≡ lineWeight line }
+    ensures value { result ≡ line_weight line }
     ensures range { result < 6 * 2 ^ 32 }
 {
     match line {
@@ -41,7 +41,7 @@ fn line_weight(line: Line) -> u64
 }
 
 fn digest_lines(section: &[u8], from: Cursor) -> u64
-    ensures { result ≡ digestLines 0 (linesLeft section.now from) }
+    ensures { result ≡ digest_lines 0 (lines_left section.now from) }
 {
     let mut digest = 0;
     let mut cursor = from;

@@ -9,8 +9,8 @@ use lib.ListN.{length}
 use lib.IntN.{ℤ, pos, negsuc}
 use borrow.Author.Tests.{le-ltb, lt-ltb, le-leb, lt-leb}
 use Rattle.numbers.specs.Field.{field_of}
-use Rattle.numbers.specs.computed.Address.{in_memory, address_of, windowFits, wholly, word_of}
-use Rattle.numbers.specs.inner.Shift.{shift_of}
+use Rattle.numbers.specs.Computed.Address.{in_memory, address_of, window_fits, wholly, word_of}
+use Rattle.numbers.specs.Inner.Shift.{shift_of}
 use Rattle.numbers.specs.declared.address.Address.TheVariants.{At, Outside}
 use Rattle.numbers.specs.declared.address.Word.TheVariants as word
 use Rattle.numbers.specs.declared.field.Order.{Order}
@@ -29,23 +29,23 @@ unfolding shift_of address_of
 up_at base (pos j) {k} e h = let same : j ≡ k = cc in rw same (at_most (base + k) h)
 up_at base (negsuc j) {k} e h = absurd (let z : ◌≡◌ {A = ℕ} 0 1 = cc in omega arith)
 
-pub up-outside : (base : ℕ) (by : ℤ) {k : ℕ} → shift_of by ≡ Up k → 2 ^ 64 ≤ base + k → Outside ≡ address_of base by
+pub up_outside : (base : ℕ) (by : ℤ) {k : ℕ} → shift_of by ≡ Up k → 2 ^ 64 ≤ base + k → Outside ≡ address_of base by
 unfolding shift_of address_of
-up-outside base (pos j) {k} e h = let same : j ≡ k = cc in rw same (past (base + k) h)
-up-outside base (negsuc j) {k} e h = absurd (let z : ◌≡◌ {A = ℕ} 0 1 = cc in omega arith)
+up_outside base (pos j) {k} e h = let same : j ≡ k = cc in rw same (past (base + k) h)
+up_outside base (negsuc j) {k} e h = absurd (let z : ◌≡◌ {A = ℕ} 0 1 = cc in omega arith)
 
-pub down-at : (base : ℕ) (by : ℤ) {k : ℕ} → shift_of by ≡ Down k → k ≤ base → base < 2 ^ 64 → At (base - k) ≡ address_of base by
+pub down_at : (base : ℕ) (by : ℤ) {k : ℕ} → shift_of by ≡ Down k → k ≤ base → base < 2 ^ 64 → At (base - k) ≡ address_of base by
 unfolding shift_of address_of
-down-at base (pos j) {k} e h b = absurd (let z : ◌≡◌ {A = ℕ} 0 1 = cc in omega arith)
-down-at base (negsuc j) {k} e h b =
+down_at base (pos j) {k} e h b = absurd (let z : ◌≡◌ {A = ℕ} 0 1 = cc in omega arith)
+down_at base (negsuc j) {k} e h b =
     let same : j + 1 ≡ k = cc in
     let less : base - k ≡ base - suc j = omega arith in
     rw (less, le-ltb base (suc j) (omega arith)) (at_most (base - suc j) (omega arith))
 
-pub down-outside : (base : ℕ) (by : ℤ) {k : ℕ} → shift_of by ≡ Down k → base < k → Outside ≡ address_of base by
+pub down_outside : (base : ℕ) (by : ℤ) {k : ℕ} → shift_of by ≡ Down k → base < k → Outside ≡ address_of base by
 unfolding shift_of address_of in_memory
-down-outside base (pos j) {k} e h = absurd (let z : ◌≡◌ {A = ℕ} 0 1 = cc in omega arith)
-down-outside base (negsuc j) {k} e h =
+down_outside base (pos j) {k} e h = absurd (let z : ◌≡◌ {A = ℕ} 0 1 = cc in omega arith)
+down_outside base (negsuc j) {k} e h =
     let same : j + 1 ≡ k = cc in
     rw (lt-ltb base (suc j) (omega arith))
 
@@ -55,22 +55,22 @@ pub word_below : (window : List ℕ) (lies at : ℕ) (order : Order) → at < li
 unfolding wholly word_of
 word_below window lies at order h = rw (lt-leb lies at h, word_of)
 
-pub word-past : (window : List ℕ) (lies at : ℕ) (order : Order) → lies ≤ at → lies + length window < at + 8
+pub word_past : (window : List ℕ) (lies at : ℕ) (order : Order) → lies ≤ at → lies + length window < at + 8
     → word.Outside ≡ word_of window lies at order
 unfolding wholly word_of
-word-past window lies at order h i = rw (le-leb lies at h, lt-leb (at + 8) (lies + length window) i, word_of)
+word_past window lies at order h i = rw (le-leb lies at h, lt-leb (at + 8) (lies + length window) i, word_of)
 
-pub word-inside : (window : List ℕ) (lies at : ℕ) (order : Order) → lies ≤ at → at + 8 ≤ lies + length window
+pub word_inside : (window : List ℕ) (lies at : ℕ) (order : Order) → lies ≤ at → at + 8 ≤ lies + length window
     → word.Is (field_of window (at - lies) 8 order) ≡ word_of window lies at order
 unfolding wholly word_of
-word-inside window lies at order h i = rw (le-leb lies at h, le-leb (at + 8) (lies + length window) i, word_of)
+word_inside window lies at order h i = rw (le-leb lies at h, le-leb (at + 8) (lies + length window) i, word_of)
 
 -- ---- a window, by its end
 
-pub fits-yes : (window : List ℕ) (lies : ℕ) → lies + length window ≤ 2 ^ 64 → true ≡ windowFits window lies
-unfolding windowFits
-fits-yes window lies h = sym (le-leb (lies + length window) (2 ^ 64) h)
+pub fits_yes : (window : List ℕ) (lies : ℕ) → lies + length window ≤ 2 ^ 64 → true ≡ window_fits window lies
+unfolding window_fits
+fits_yes window lies h = sym (le-leb (lies + length window) (2 ^ 64) h)
 
-pub fits-no : (window : List ℕ) (lies : ℕ) → 2 ^ 64 < lies + length window → false ≡ windowFits window lies
-unfolding windowFits
-fits-no window lies h = sym (lt-leb (lies + length window) (2 ^ 64) h)
+pub fits_no : (window : List ℕ) (lies : ℕ) → 2 ^ 64 < lies + length window → false ≡ window_fits window lies
+unfolding window_fits
+fits_no window lies h = sym (lt-leb (lies + length window) (2 ^ 64) h)

@@ -11,8 +11,8 @@ use lib.ListN.{length, take, drop, get_or, length-drop}
 use lib.Seq.{take-suc, drop-cons, get_or-drop, take-nil, take-take, drop-drop}
 use borrow.Author.Tests.{le-leb, lt-leb}
 use Rattle.numbers.specs.Field.{digits, number_in, field_of, byte_of}
-use Rattle.numbers.specs.computed.Number.{number_of}
-use Rattle.numbers.specs.inner.Digits.{digitPlace}
+use Rattle.numbers.specs.Computed.Number.{number_of}
+use Rattle.numbers.specs.Inner.Digits.{digit_place}
 use Rattle.numbers.specs.declared.field.Number.TheVariants.{Is, Outside, NoWidth}
 use Rattle.numbers.specs.declared.field.Order.{Order}
 use Rattle.numbers.specs.declared.field.Order.TheVariants.{Little, Big}
@@ -40,33 +40,33 @@ backward bytes at width (suc n) k h e =
 
 -- a field is what its digits make
 pub by_digits : (bytes : List ℕ) (at width : ℕ) (order : Order) → at + width ≤ length bytes
-    → field_of bytes at width order ≡ digits (values_of (λ k. get_or bytes (digitPlace order at width k) 0) width 0)
-unfolding field_of number_in digitPlace
+    → field_of bytes at width order ≡ digits (values_of (λ k. get_or bytes (digit_place order at width k) 0) width 0)
+unfolding field_of number_in digit_place
 by_digits bytes at width Little h = ap digits (rw add-zero at (forward bytes at width 0 (omega arith)))
 by_digits bytes at width Big h = ap digits (backward bytes at width width 0 h (omega arith))
 
 -- one byte is one digit, in either order
-one-digit : (bytes : List ℕ) (at : ℕ) (order : Order) → at + 1 ≤ length bytes → field_of bytes at 1 order ≡ get_or bytes at 0
-unfolding digits digitPlace
-one-digit bytes at Little h = by_digits bytes at 1 Little h ∙ simp add-zero
-one-digit bytes at Big h = by_digits bytes at 1 Big h ∙ simp add-zero
+one_digit : (bytes : List ℕ) (at : ℕ) (order : Order) → at + 1 ≤ length bytes → field_of bytes at 1 order ≡ get_or bytes at 0
+unfolding digits digit_place
+one_digit bytes at Little h = by_digits bytes at 1 Little h ∙ simp add-zero
+one_digit bytes at Big h = by_digits bytes at 1 Big h ∙ simp add-zero
 
-pub byte-is : (bytes : List ℕ) (at : ℕ) → at + 1 ≤ length bytes → get_or bytes at 0 ≡ byte_of bytes at
+pub byte_is : (bytes : List ℕ) (at : ℕ) → at + 1 ≤ length bytes → get_or bytes at 0 ≡ byte_of bytes at
 unfolding byte_of
-byte-is bytes at h = sym (one-digit bytes at Little h)
+byte_is bytes at h = sym (one_digit bytes at Little h)
 
-pub byte-in : (bytes : List ℕ) (at : ℕ) (order : Order) → at + 1 ≤ length bytes → byte_of bytes at ≡ field_of bytes at 1 order
-byte-in bytes at order h = sym (byte-is bytes at h) ∙ sym (one-digit bytes at order h)
+pub byte_in : (bytes : List ℕ) (at : ℕ) (order : Order) → at + 1 ≤ length bytes → byte_of bytes at ≡ field_of bytes at 1 order
+byte_in bytes at order h = sym (byte_is bytes at h) ∙ sym (one_digit bytes at order h)
 
 -- ---- a number by the code of its width, by the tests of its code and place
 
-pub no-width : (bytes : List ℕ) (at code : ℕ) (order : Order) → 3 < code → NoWidth ≡ number_of bytes at code order
+pub no_width : (bytes : List ℕ) (at code : ℕ) (order : Order) → 3 < code → NoWidth ≡ number_of bytes at code order
 unfolding number_of
-no-width bytes at code order h = rw (lt-leb code 3 h, number_of)
+no_width bytes at code order h = rw (lt-leb code 3 h, number_of)
 
-pub number-outside : (bytes : List ℕ) (at code : ℕ) (order : Order) → code ≤ 3 → length bytes < at + 2 ^ code → Outside ≡ number_of bytes at code order
+pub number_outside : (bytes : List ℕ) (at code : ℕ) (order : Order) → code ≤ 3 → length bytes < at + 2 ^ code → Outside ≡ number_of bytes at code order
 unfolding number_of
-number-outside bytes at code order h i = rw (le-leb code 3 h, number_of) (rw (lt-leb (at + 2 ^ code) (length bytes) i))
+number_outside bytes at code order h i = rw (le-leb code 3 h, number_of) (rw (lt-leb (at + 2 ^ code) (length bytes) i))
 
 pub number_is : (bytes : List ℕ) (at code : ℕ) (order : Order) → code ≤ 3 → at + 2 ^ code ≤ length bytes
     → Is (field_of bytes at (2 ^ code) order) ≡ number_of bytes at code order
@@ -75,13 +75,13 @@ number_is bytes at code order h i = rw (le-leb code 3 h, number_of) (rw (le-leb 
 
 -- ---- what the layers above ask of a field
 
-digits-below : (f : ℕ → ℕ) → ((j : ℕ) → f j < 256) → (n k : ℕ) → digits (values_of f n k) < 256 ^ n
+digits_below : (f : ℕ → ℕ) → ((j : ℕ) → f j < 256) → (n k : ℕ) → digits (values_of f n k) < 256 ^ n
 unfolding digits
-digits-below f h zero k = lit< tt
-digits-below f h (suc n) k = rw pow-succ' (omega (arith, h k, digits-below f h n (suc k)))
+digits_below f h zero k = lit< tt
+digits_below f h (suc n) k = rw pow-succ' (omega (arith, h k, digits_below f h n (suc k)))
 
 -- a field whose bytes are below 256 is below 256 ^ width
 pub field_below : (bytes : List ℕ) → ((k : ℕ) → get_or bytes k 0 < 256) → (at width : ℕ) (order : Order) → at + width ≤ length bytes
     → field_of bytes at width order < 256 ^ width
 field_below bytes small at width order h =
-    rw (by_digits bytes at width order h) (digits-below _ (λ j. small (digitPlace order at width j)) width 0)
+    rw (by_digits bytes at width order h) (digits_below _ (λ j. small (digit_place order at width j)) width 0)

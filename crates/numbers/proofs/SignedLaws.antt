@@ -11,7 +11,7 @@ use mir.Val.{SFits, to_z, of_z}
 use mir.Facts.{to_z-of_z}
 use borrow.Author.Tests.{ltb-true, le-ltb, lt-ltb}
 use Rattle.numbers.specs.Signed.{signed_of, offset_of}
-use Rattle.numbers.proofs.DiffLaws.{diff-less, diff-mag}
+use Rattle.numbers.proofs.DiffLaws.{diff_less, diff_mag}
 
 -- a negative number, and what -1 less it is, as it is computed and as it is read back
 pub record Below (z : ℤ) : Type 0 where
@@ -49,14 +49,14 @@ above (negsuc k) f e =
     absurd (let z : ◌≡◌ {A = ℕ} 0 1 = cc in omega arith)
 
 -- a number below 2 ^ 63 is the same as an i64
-pub as-signed : (n : ℕ) → n < 2 ^ 63 → to_z w64 n ≡ pos n
-as-signed n h =
+pub as_signed : (n : ℕ) → n < 2 ^ 63 → to_z w64 n ≡ pos n
+as_signed n h =
     let fits : SFits w64 (pos n) = record { sfits = h } in
     to_z-of_z fits
 
 -- the difference that a signed field is, as the code computes it
-pub less-fits : (n full : ℕ) → n < 2 ^ 63 → full < 2 ^ 63 → SFits w64 (pos n -ℤ pos full)
-less-fits n full p q = record { sfits = diff-mag (2 ^ 63) (diff-less n full) p (omega arith) }
+pub less_fits : (n full : ℕ) → n < 2 ^ 63 → full < 2 ^ 63 → SFits w64 (pos n -ℤ pos full)
+less_fits n full p q = record { sfits = diff_mag (2 ^ 63) (diff_less n full) p (omega arith) }
 
 -- a signed field in the lower half and in the upper half
 pub signed_low : (width n : ℕ) → n < 256 ^ width / 2 → signed_of width n ≡ pos n
@@ -68,6 +68,6 @@ unfolding signed_of
 signed_high width n h = rw (le-ltb _ _ h, signed_of)
 
 -- the offset of a signed field that is known
-pub offset-is : (width n : ℕ) {z : ℤ} → signed_of width n ≡ z → record { by = z } ≡ offset_of width n
+pub offset_is : (width n : ℕ) {z : ℤ} → signed_of width n ≡ z → record { by = z } ≡ offset_of width n
 unfolding offset_of
-offset-is width n e = ap (λ z. record { by = z }) (sym e)
+offset_is width n e = ap (λ z. record { by = z }) (sym e)

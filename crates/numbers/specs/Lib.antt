@@ -2,5 +2,5 @@ pub mod Agree
 pub mod Field
 pub mod Signed
 pub mod Start
-pub mod computed
-pub mod inner
+pub mod Computed
+pub mod Inner

@@ -1,6 +1,6 @@
 // Exact addresses: a base plus a signed offset, and words of 8 bytes of a window that lies at an address.
 ghost use Rattle.std.specs.Prelude.{◌≡◌};
-ghost use Rattle.numbers.specs.computed.Address.{address_of, windowFits, word_of};
+ghost use Rattle.numbers.specs.Computed.Address.{address_of, window_fits, word_of};
 
 use crate::field::{Order, u64_at};
 use crate::offset::{Offset, Shift, shift_of};
@@ -39,7 +39,7 @@ pub fn address_of(base: u64, offset: Offset) -> Address
 
 // Whether a window that lies at an address ends within memory.
 pub fn window_fits(window: &[u8], lies: u64) -> bool
-    ensures { result ≡ windowFits window.now lies }
+    ensures { result ≡ window_fits window.now lies }
 {
     let length = window.len() as u64;
     if length == 0 {

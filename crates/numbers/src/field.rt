@@ -2,8 +2,8 @@
 // Each reader is held to the one definition of specs/Field, and each is proved by the one law on a field's digits.
 ghost use Rattle.std.specs.Prelude.{◌≡◌, ◌+◌, ◌≤◌, ◌<◌, ◌^◌, length, get_or};
 ghost use Rattle.numbers.specs.Field.{field_of, byte_of};
-ghost use Rattle.numbers.specs.inner.Digits.{digitPlace};
-ghost use Rattle.numbers.specs.computed.Number.{number_of};
+ghost use Rattle.numbers.specs.Inner.Digits.{digit_place};
+ghost use Rattle.numbers.specs.Computed.Number.{number_of};
 
 #[derive(Drop)]
 pub enum Order {
@@ -24,7 +24,7 @@ pub enum Number {
 // Digit k, the least being 0, of the number of `width` bytes at `at`.
 fn digit_at(bytes: &[u8], at: usize, width: usize, k: usize, order: Order) -> u8
     requires { (k < width) × (at + width ≤ length bytes.now) }
-    ensures { result ≡ get_or bytes.now (digitPlace order at width k) 0 }
+    ensures { result ≡ get_or bytes.now (digit_place order at width k) 0 }
 {
     match order {
         Order::Little => bytes[at + k],

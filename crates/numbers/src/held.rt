@@ -1,7 +1,7 @@
 // Starts of functions and the distance they are compared with, each held 2^32 above its exact value, so that it is never
 // below 0 and every comparison is of plain u64.
 ghost use Rattle.std.specs.Prelude.{◌≡◌, ◌<◌, ◌^◌};
-ghost use Rattle.numbers.specs.inner.Held.{rank, raised, near, Held};
+ghost use Rattle.numbers.specs.Inner.Held.{rank, raised, near, Held};
 ghost use Rattle.numbers.specs.Start.{start_at, distance};
 
 use crate::offset::Offset;

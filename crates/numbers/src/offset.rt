@@ -2,7 +2,7 @@
 ghost use Rattle.std.specs.Prelude.{◌≡◌, ◌+◌, ◌≤◌, ◌^◌, length};
 ghost use Rattle.numbers.specs.Field.{field_of};
 ghost use Rattle.numbers.specs.Signed.{offset_of};
-ghost use Rattle.numbers.specs.inner.Shift.{shift_of};
+ghost use Rattle.numbers.specs.Inner.Shift.{shift_of};
 
 use crate::field::{Order, field_at};
 

@@ -17,23 +17,23 @@ use Rattle.accept.proofs.section_check.check.Kinds as check-kinds
 use Rattle.accept.proofs.section_check.check.Reads as check-reads
 use Rattle.promises.specs.Determined.{Determined}
 
-pub wrong_entry_info-determined : Determined wrong_entry_info-kinds.ps wrong_entry_info-kinds.r wrong_entry_info-reads.Learnt
-wrong_entry_info-determined κs a z z' w w' p q = (p ∙ sym q, refl)
+pub wrong_entry_info_determined : Determined wrong_entry_info-kinds.ps wrong_entry_info-kinds.r wrong_entry_info-reads.Learnt
+wrong_entry_info_determined κs a z z' w w' p q = (p ∙ sym q, refl)
 
-pub wrong_repeat-determined : Determined wrong_repeat-kinds.ps wrong_repeat-kinds.r wrong_repeat-reads.Learnt
-wrong_repeat-determined κs a z z' w w' p q = (p ∙ sym q, refl)
+pub wrong_repeat_determined : Determined wrong_repeat-kinds.ps wrong_repeat-kinds.r wrong_repeat-reads.Learnt
+wrong_repeat_determined κs a z z' w w' p q = (p ∙ sym q, refl)
 
-pub check_entry-determined : Determined check_entry-kinds.ps check_entry-kinds.r check_entry-reads.Learnt
-check_entry-determined κs a z z' w w' p q = (p ∙ sym q, refl)
+pub check_entry_determined : Determined check_entry-kinds.ps check_entry-kinds.r check_entry-reads.Learnt
+check_entry_determined κs a z z' w w' p q = (p ∙ sym q, refl)
 
-pub check_header-determined : Determined check_header-kinds.ps check_header-kinds.r check_header-reads.Learnt
-check_header-determined κs a z z' w w' p q = (p ∙ sym q, refl)
+pub check_header_determined : Determined check_header-kinds.ps check_header-kinds.r check_header-reads.Learnt
+check_header_determined κs a z z' w w' p q = (p ∙ sym q, refl)
 
-pub check_row-determined : Determined check_row-kinds.ps check_row-kinds.r check_row-reads.Learnt
-check_row-determined κs a z z' w w' p q = (p ∙ sym q, refl)
+pub check_row_determined : Determined check_row-kinds.ps check_row-kinds.r check_row-reads.Learnt
+check_row_determined κs a z z' w w' p q = (p ∙ sym q, refl)
 
-pub check_rows-determined : Determined check_rows-kinds.ps check_rows-kinds.r check_rows-reads.Learnt
-check_rows-determined κs a z z' w w' p q = (p ∙ sym q, refl)
+pub check_rows_determined : Determined check_rows-kinds.ps check_rows-kinds.r check_rows-reads.Learnt
+check_rows_determined κs a z z' w w' p q = (p ∙ sym q, refl)
 
-pub check-determined : Determined check-kinds.ps check-kinds.r check-reads.Learnt
-check-determined κs a z z' w w' p q = (p ∙ sym q, refl)
+pub check_determined : Determined check-kinds.ps check-kinds.r check-reads.Learnt
+check_determined κs a z z' w w' p q = (p ∙ sym q, refl)

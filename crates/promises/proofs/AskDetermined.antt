@@ -7,8 +7,8 @@ use Rattle.ask.proofs.rows.seek_row.Kinds as seek_row-kinds
 use Rattle.ask.proofs.rows.seek_row.Reads as seek_row-reads
 use Rattle.promises.specs.Determined.{Determined}
 
-pub seek_row-determined : Determined seek_row-kinds.ps seek_row-kinds.r seek_row-reads.Learnt
-seek_row-determined κs a z z' w w' p q = (p ∙ sym q, refl)
+pub seek_row_determined : Determined seek_row-kinds.ps seek_row-kinds.r seek_row-reads.Learnt
+seek_row_determined κs a z z' w w' p q = (p ∙ sym q, refl)
 
-pub ask-determined : Determined ask-kinds.ps ask-kinds.r ask-reads.Learnt
-ask-determined κs a z z' w w' p q = (p ∙ sym q, refl)
+pub ask_determined : Determined ask-kinds.ps ask-kinds.r ask-reads.Learnt
+ask_determined κs a z z' w w' p q = (p ∙ sym q, refl)

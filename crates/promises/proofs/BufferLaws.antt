@@ -29,14 +29,14 @@ use denote.Plain.{uint_in, uint_out}
 use denote.Slice.{MutSlice, Room, finally}
 use denote.Steps.{nothing}
 use Rattle.promises.specs.Returns.{Assertion, ◌∗◌, ◌has◌}
-use Rattle.promises.specs.Runs.{whole, bufferType, wordsValue, WithBuffer, BufferHas}
+use Rattle.promises.specs.Runs.{whole, buffer_type, words_value, WithBuffer, BufferHas}
 use Rattle.promises.proofs.ReturnLaws.{𝓤, H, 𝓜, A}
 use Rattle.promises.proofs.RunLaws.{W, hold, Lends, referred}
 
 -- ---- words as one array, and one by one
 
 abbrev pub Buffer : ℕ → List ℕ → Assertion
-Buffer n ws = H.at full_share (bufferType n) 2 0 (wordsValue ws)
+Buffer n ws = H.at full_share (buffer_type n) 2 0 (words_value ws)
 
 abbrev Elements : List ℕ → ℕ → Assertion
 Elements ws o = elems 𝓤 H full_share (ty_int w64) 2 o (map (vint w64) ws)
@@ -49,40 +49,40 @@ together : (ws : List ℕ) (o : ℕ) → ent 𝓤 (meaning 𝓤 H A (cells (mem 
 together [] o = id⊢ 𝓤 (emp 𝓤)
 together (x ∷ ws) o = mono∗ 𝓤 (uint_out 𝓤 H A W full_share w64 x 2 o) (together ws (o + 8))
 
-words-in : (n : ℕ) (ws : List ℕ) → ent 𝓤 (Buffer n ws) (meaning 𝓤 H A (cells (mem u64) ws 2 0))
-words-in n ws = via 𝓤 (Elements ws 0) (𝓜.at_elems full_share (ty_int w64) n 2 0 (map (vint w64) ws)) (one_by_one ws 0)
+words_in : (n : ℕ) (ws : List ℕ) → ent 𝓤 (Buffer n ws) (meaning 𝓤 H A (cells (mem u64) ws 2 0))
+words_in n ws = via 𝓤 (Elements ws 0) (𝓜.at_elems full_share (ty_int w64) n 2 0 (map (vint w64) ws)) (one_by_one ws 0)
 
-words-out : (n : ℕ) (ws : List ℕ) → ent 𝓤 (meaning 𝓤 H A ((Arr (mem u64) n).own_at ws 2 0)) (Buffer n ws)
-words-out n ws =
+words_out : (n : ℕ) (ws : List ℕ) → ent 𝓤 (meaning 𝓤 H A ((Arr (mem u64) n).own_at ws 2 0)) (Buffer n ws)
+words_out n ws =
     qed W (‵ ((Arr (mem u64) n).own_at ws 2 0) ∷ []) ∵ fsplit ! $ feq_l ! (λ long.
     by ! (via 𝓤 (Elements ws 0) (together ws 0)
     (subst (λ k. ent 𝓤 (Elements ws 0) (Buffer k ws)) (length-map ws (vint w64) ∙ long) (𝓜.elems_at full_share (ty_int w64) 2 0 (map (vint w64) ws)))))
 
 -- ---- a block more, with words in it
 
-words-typed : (ws : List ℕ) → T (has_ty (bufferType (length ws)) (wordsValue ws))
-words-typed [] = tt
-words-typed (x ∷ ws) = words-typed ws
+words_typed : (ws : List ℕ) → T (has_ty (buffer_type (length ws)) (words_value ws))
+words_typed [] = tt
+words_typed (x ∷ ws) = words_typed ws
 
-words-fit : (ws : List ℕ) → AllFit w64 ws → WT (wordsValue ws)
-words-fit [] fit = tt
-words-fit (x ∷ ws) fit = (fit.0, words-fit ws fit.1)
+words_fit : (ws : List ℕ) → AllFit w64 ws → WT (words_value ws)
+words_fit [] fit = tt
+words_fit (x ∷ ws) fit = (fit.0, words_fit ws fit.1)
 
 module _ (s stack old : List ℕ) where
   -- the block is there, and holds nothing yet
   abbrev fresh : Memory
-  fresh = alloc_m (start_mem s stack) (bufferType (length old))
+  fresh = alloc_m (start_mem s stack) (buffer_type (length old))
 
   abbrev Space : Assertion
-  Space = H.room (bufferType (length old)) 2 0
+  Space = H.room (buffer_type (length old)) 2 0
 
   has-space : (P : Assertion) → start_mem s stack has P → fresh has Space ∗ P
   unfolding start_mem
   has-space P =
       let now : Assertion = 𝓜.mem fresh in
-      let dies : Assertion = H.dies (bufferType (length old)) 2 in
+      let dies : Assertion = H.dies (buffer_type (length old)) 2 in
       sat_upd 𝓤 H 𝓜 (start_mem s stack) fresh P (Space ∗ P)
-      (via 𝓤 (upd 𝓤 (now ∗ Space ∗ dies) ∗ P) (mono_l 𝓤 P (𝓜.alloc (start_mem s stack) (bufferType (length old))))
+      (via 𝓤 (upd 𝓤 (now ∗ Space ∗ dies) ∗ P) (mono_l 𝓤 P (𝓜.alloc (start_mem s stack) (buffer_type (length old))))
       (via 𝓤 (upd 𝓤 ((now ∗ Space ∗ dies) ∗ P)) (upd_frame 𝓤 (now ∗ Space ∗ dies) P)
       (upd_mono 𝓤 (via 𝓤 (now ∗ (Space ∗ dies) ∗ P) (assoc∗ 𝓤 now (Space ∗ dies) P) (mono_r 𝓤 now (mono_l 𝓤 P (fst∗ 𝓤 Space dies)))))))
 
@@ -93,11 +93,11 @@ module _ (s stack old : List ℕ) where
   stores : AllFit w64 old → (P : Assertion) → ent 𝓤 (𝓜.mem fresh ∗ Space ∗ P) (ex 𝓤 Filled ∗ P)
   stores fit P =
       via 𝓤 ((𝓜.mem fresh ∗ Space) ∗ P) (assoc' 𝓤 (𝓜.mem fresh) Space P)
-      (mono_l 𝓤 P (𝓜.room_store fresh (bufferType (length old)) 2 0 (wordsValue old) (words-typed old) (words-fit old fit)))
+      (mono_l 𝓤 P (𝓜.room_store fresh (buffer_type (length old)) 2 0 (words_value old) (words_typed old) (words_fit old fit)))
 
   module _ (fit : AllFit w64 old) (P : Assertion) (there : start_mem s stack has P) where
-    pub can-be-stored : ∥ ((σ : Memory) × WithBuffer s stack old σ) ∥₁
-    can-be-stored =
+    pub can_be_stored : ∥ ((σ : Memory) × WithBuffer s stack old σ) ∥₁
+    can_be_stored =
         let Some : Type 0 = ∥ ((σ : Memory) × WithBuffer s stack old σ) ∥₁ in
         ∥∥₁_elim
         (sat_fact 𝓤 H 𝓜 fresh (Space ∗ P) Some
@@ -106,8 +106,8 @@ module _ (s stack old : List ℕ) where
         (has-space P there))
         ∥∥₁_prop λ some-memory. some-memory
 
-    pub with-buffer : (σ : Memory) → WithBuffer s stack old σ → σ has Buffer (length old) old ∗ P
-    with-buffer σ is-stored =
+    pub with_buffer : (σ : Memory) → WithBuffer s stack old σ → σ has Buffer (length old) old ∗ P
+    with_buffer σ is-stored =
         let filled : Assertion = Buffer (length old) old in
         sat_upd 𝓤 H 𝓜 fresh σ (Space ∗ P) (filled ∗ P)
         (via 𝓤 (ex 𝓤 Filled ∗ P) (stores fit P)
@@ -123,16 +123,16 @@ module _ (j : ℕ) (ws : List ℕ) where
   abbrev pub words : ℕ → GName → Assertion
   words α γ = meaning 𝓤 H A ((MutSlice (named j) (α ∷ []) u64).own_val (referred 2 ws γ) (whole 2 ws ∷ []))
 
-  abbrev pub words-kept : ℕ → GName → Assertion
-  words-kept α γ = A.lent (α ∷ []) (Held u64 (length ws) 2 0 γ)
+  abbrev pub words_kept : ℕ → GName → Assertion
+  words_kept α γ = A.lent (α ∷ []) (Held u64 (length ws) 2 0 γ)
 
-  pub lends-words : Room u64 (length ws) → Lends (Buffer (length ws) ws) words words-kept
-  lends-words room =
-      qed W (raw (Buffer (length ws) ws) ∷ []) ∵ updating ! $ use1 W (‵ (cells (mem u64) ws 2 0)) (words-in (length ws) ws) $
+  pub lends_words : Room u64 (length ws) → Lends (Buffer (length ws) ws) words words_kept
+  lends_words room =
+      qed W (raw (Buffer (length ws) ws) ∷ []) ∵ updating ! $ use1 W (‵ (cells (mem u64) ws 2 0)) (words_in (length ws) ws) $
       lft_new ! tt (λ α. move ! (1 ∷ []) $
-      use1 W (later (some (λ (γ : GName). raw (words α γ) ⊛ raw (words-kept α γ)))) (lends_slice 𝓤 H A W u64 (named j) (α ∷ []) ws 2 0 room) $
+      use1 W (later (some (λ (γ : GName). raw (words α γ) ⊛ raw (words_kept α γ)))) (lends_slice 𝓤 H A W u64 (named j) (α ∷ []) ws 2 0 room) $
       await ! tt $ pick ! (λ γ. split ! $ at_once ! $
-      show ! (λ β. ex 𝓤 (λ δ. hold β ∗ words β δ ∗ words-kept β δ)) α $ show ! (λ δ. hold α ∗ words α δ ∗ words-kept α δ) γ $
+      show ! (λ β. ex 𝓤 (λ δ. hold β ∗ words β δ ∗ words_kept β δ)) α $ show ! (λ δ. hold α ∗ words α δ ∗ words_kept α δ) γ $
       move ! (2 ∷ 0 ∷ 1 ∷ []) $ done !))
 
 module _ (n : ℕ) (α : ℕ) (γ : GName) (ws : List ℕ) where
@@ -145,15 +145,15 @@ module _ (n : ℕ) (α : ℕ) (γ : GName) (ws : List ℕ) where
   taken_back =
       qed W (‵ (flft (α ∷ []) full_share) ∷ ‵ (finally u64 γ ws) ∷ ‵ (flent (α ∷ []) (Held u64 n 2 0 γ)) ∷ []) ∵ updating ! $ lft_end ! tt $
       move ! (0 ∷ 2 ∷ []) $ use3 W (later (‵ ((Arr (mem u64) n).own_at ws 2 0))) (slice_back 𝓤 H A W u64 (α ∷ []) γ ws n 2 0) $
-      await ! tt $ at_once ! $ by ! (words-out n ws)
+      await ! tt $ at_once ! $ by ! (words_out n ws)
 
-  pub buffer-has : (σ : Memory) (P : Assertion) → ent 𝓤 P Back → σ has P → ∥ BufferHas σ n ws ∥₁
-  buffer-has σ P gives s =
+  pub buffer_has : (σ : Memory) (P : Assertion) → ent 𝓤 P Back → σ has P → ∥ BufferHas σ n ws ∥₁
+  buffer_has σ P gives s =
       let now : Assertion = 𝓜.mem σ ∗ Buffer n ws in
       sat_fact 𝓤 H 𝓜 σ (Buffer n ws ∗ emp 𝓤) (BufferHas σ n ws)
       (via 𝓤 (now ∗ emp 𝓤) (assoc' 𝓤 (𝓜.mem σ) (Buffer n ws) (emp 𝓤))
       (via 𝓤 now (fst∗ 𝓤 now (emp 𝓤))
-      (via 𝓤 (guard 𝓤 (BufferHas σ n ws) now) (𝓜.at_load σ full_share (bufferType n) 2 0 (wordsValue ws))
+      (via 𝓤 (guard 𝓤 (BufferHas σ n ws) now) (𝓜.at_load σ full_share (buffer_type n) 2 0 (words_value ws))
       (guard_e 𝓤 (BufferHas σ n ws) now (fact_i 𝓤 (BufferHas σ n ws) now)))))
       (sat_⇛ 𝓤 H 𝓜 σ (Buffer n ws) (emp 𝓤)
       (sat_weaken 𝓤 H 𝓜 σ

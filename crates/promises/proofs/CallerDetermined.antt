@@ -35,50 +35,50 @@ use Rattle.caller.proofs.signature.mask_of.Kinds as mask_of-kinds
 use Rattle.caller.proofs.signature.mask_of.Reads as mask_of-reads
 use Rattle.promises.specs.Determined.{Determined}
 
-pub spot_of-determined : Determined spot_of-kinds.ps spot_of-kinds.r spot_of-reads.Learnt
-spot_of-determined κs a z z' w w' p q = (p ∙ sym q, refl)
+pub spot_of_determined : Determined spot_of-kinds.ps spot_of-kinds.r spot_of-reads.Learnt
+spot_of_determined κs a z z' w w' p q = (p ∙ sym q, refl)
 
-pub is_lost-determined : Determined is_lost-kinds.ps is_lost-kinds.r is_lost-reads.Learnt
-is_lost-determined κs a z z' w w' p q = (p ∙ sym q, refl)
+pub is_lost_determined : Determined is_lost-kinds.ps is_lost-kinds.r is_lost-reads.Learnt
+is_lost_determined κs a z z' w w' p q = (p ∙ sym q, refl)
 
-pub value_at-determined : Determined value_at-kinds.ps value_at-kinds.r value_at-reads.Learnt
-value_at-determined κs a z z' w w' p q = (p ∙ sym q, refl)
+pub value_at_determined : Determined value_at-kinds.ps value_at-kinds.r value_at-reads.Learnt
+value_at_determined κs a z z' w w' p q = (p ∙ sym q, refl)
 
-pub values_at-determined : Determined values_at-kinds.ps values_at-kinds.r values_at-reads.Learnt
-values_at-determined κs a z z' w w' p q = (p ∙ sym q, refl)
+pub values_at_determined : Determined values_at-kinds.ps values_at-kinds.r values_at-reads.Learnt
+values_at_determined κs a z z' w w' p q = (p ∙ sym q, refl)
 
-pub asked_of-determined : Determined asked_of-kinds.ps asked_of-kinds.r asked_of-reads.Learnt
-asked_of-determined κs a z z' w w' p q = (p ∙ sym q, refl)
+pub asked_of_determined : Determined asked_of-kinds.ps asked_of-kinds.r asked_of-reads.Learnt
+asked_of_determined κs a z z' w w' p q = (p ∙ sym q, refl)
 
-pub base_value-determined : Determined base_value-kinds.ps base_value-kinds.r base_value-reads.Learnt
-base_value-determined κs a z z' w w' p q = (p ∙ sym q, refl)
+pub base_value_determined : Determined base_value-kinds.ps base_value-kinds.r base_value-reads.Learnt
+base_value_determined κs a z z' w w' p q = (p ∙ sym q, refl)
 
-pub cfa_of-determined : Determined cfa_of-kinds.ps cfa_of-kinds.r cfa_of-reads.Learnt
-cfa_of-determined κs a z z' w w' p q = (p ∙ sym q, refl)
+pub cfa_of_determined : Determined cfa_of-kinds.ps cfa_of-kinds.r cfa_of-reads.Learnt
+cfa_of_determined κs a z z' w w' p q = (p ∙ sym q, refl)
 
-pub caller_sp-determined : Determined caller_sp-kinds.ps caller_sp-kinds.r caller_sp-reads.Learnt
-caller_sp-determined κs a z z' w w' p q = (p ∙ sym q, refl)
+pub caller_sp_determined : Determined caller_sp-kinds.ps caller_sp-kinds.r caller_sp-reads.Learnt
+caller_sp_determined κs a z z' w w' p q = (p ∙ sym q, refl)
 
-pub cfa_of_sp-determined : Determined cfa_of_sp-kinds.ps cfa_of_sp-kinds.r cfa_of_sp-reads.Learnt
-cfa_of_sp-determined κs a z z' w w' p q = (p ∙ sym q, refl)
+pub cfa_of_sp_determined : Determined cfa_of_sp-kinds.ps cfa_of_sp-kinds.r cfa_of_sp-reads.Learnt
+cfa_of_sp_determined κs a z z' w w' p q = (p ∙ sym q, refl)
 
-pub is_low-determined : Determined is_low-kinds.ps is_low-kinds.r is_low-reads.Learnt
-is_low-determined κs a z z' w w' p q = (p ∙ sym q, refl)
+pub is_low_determined : Determined is_low-kinds.ps is_low-kinds.r is_low-reads.Learnt
+is_low_determined κs a z z' w w' p q = (p ∙ sym q, refl)
 
-pub is_maskless-determined : Determined is_maskless-kinds.ps is_maskless-kinds.r is_maskless-reads.Learnt
-is_maskless-determined κs a z z' w w' p q = (p ∙ sym q, refl)
+pub is_maskless_determined : Determined is_maskless-kinds.ps is_maskless-kinds.r is_maskless-reads.Learnt
+is_maskless_determined κs a z z' w w' p q = (p ∙ sym q, refl)
 
-pub mask_of-determined : Determined mask_of-kinds.ps mask_of-kinds.r mask_of-reads.Learnt
-mask_of-determined κs a z z' w w' p q = (p ∙ sym q, refl)
+pub mask_of_determined : Determined mask_of-kinds.ps mask_of-kinds.r mask_of-reads.Learnt
+mask_of_determined κs a z z' w w' p q = (p ∙ sym q, refl)
 
-pub clear-determined : Determined clear-kinds.ps clear-kinds.r clear_reads.Learnt
-clear-determined κs a z z' w w' p q = (p ∙ sym q, refl)
+pub clear_determined : Determined clear-kinds.ps clear-kinds.r clear_reads.Learnt
+clear_determined κs a z z' w w' p q = (p ∙ sym q, refl)
 
-pub from_row-determined : Determined from_row-kinds.ps from_row-kinds.r from_row-reads.Learnt
-from_row-determined κs a z z' w w' p q = (p ∙ sym q, refl)
+pub from_row_determined : Determined from_row-kinds.ps from_row-kinds.r from_row-reads.Learnt
+from_row_determined κs a z z' w w' p q = (p ∙ sym q, refl)
 
-pub step_checked-determined : Determined step_checked-kinds.ps step_checked-kinds.r step_checked-reads.Learnt
-step_checked-determined κs a z z' w w' p q = (p ∙ sym q, refl)
+pub step_checked_determined : Determined step_checked-kinds.ps step_checked-kinds.r step_checked-reads.Learnt
+step_checked_determined κs a z z' w w' p q = (p ∙ sym q, refl)
 
-pub step-determined : Determined step-kinds.ps step-kinds.r step-reads.Learnt
-step-determined κs a z z' w w' p q = (p ∙ sym q, refl)
+pub step_determined : Determined step-kinds.ps step-kinds.r step-reads.Learnt
+step_determined κs a z z' w w' p q = (p ∙ sym q, refl)

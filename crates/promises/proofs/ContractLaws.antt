@@ -3,21 +3,21 @@
 use mathlib.Core.Path.{◌≡◌, refl}
 use mathlib.Core.List.{List, []}
 use Prim.Native.Nat.{ℕ}
-use Rattle.accept.specs.computed.Checks.{verdict}
-use Rattle.lookup.specs.computed.Answers.{lookupOf}
-use Rattle.caller.specs.computed.Caller.{stepIn}
+use Rattle.accept.specs.Computed.Checks.{verdict}
+use Rattle.lookup.specs.Computed.Answers.{lookup_of}
+use Rattle.caller.specs.Computed.Caller.{step_in}
 use Rattle.caller.specs.declared.registers.Registers.{Registers}
 use Rattle.caller.specs.declared.registers.Process.{Process}
-use Rattle.trace.specs.Frames.{tracedAs}
-use Rattle.trace.specs.computed.Trace.{traceOf}
+use Rattle.trace.specs.Frames.{traced_as}
+use Rattle.trace.specs.Computed.Trace.{trace_of}
 use Rattle.promises.specs.Calls.{Calls}
-use Rattle.promises.specs.Contracts.{Keeps, GivenBy}
-use Rattle.promises.specs.computed.Ours.{ours}
-use Rattle.promises.specs.inner.Lent.{Lies, lent}
+use Rattle.promises.specs.StatedContracts.{Keeps, GivenBy}
+use Rattle.promises.specs.Computed.Ours.{ours}
+use Rattle.promises.specs.Inner.Lent.{Lies, lent}
 
-pub contracts-give : GivenBy ours
+pub contracts_give : GivenBy ours
 unfolding ours
-contracts-give =
+contracts_give =
     record {
       check = λ κs a z. (λ p. p, λ p. p);
       lookup = λ κs a z. (λ p. p, λ p. p);
@@ -25,9 +25,9 @@ contracts-give =
       trace = λ κs a z words. (λ p. p, λ p. p);
     }
 
-pub contracts-kept : Keeps ours
-unfolding ours tracedAs
-contracts-kept =
+pub contracts_kept : Keeps ours
+unfolding ours traced_as
+contracts_kept =
     record {
       check = λ κs a. refl;
       lookup = λ κs a. refl;
@@ -40,17 +40,17 @@ pub somewhere : Lies
 somewhere = record { place = (0, 0); name = 0 }
 
 module _ (calls : Calls) (keeps : Keeps calls) where
-  pub check-is : (s : List ℕ) → calls.check s ≡ verdict s
-  check-is s = keeps.check ([], tt) (lent somewhere s, tt)
+  pub check_is : (s : List ℕ) → calls.check s ≡ verdict s
+  check_is s = keeps.check ([], tt) (lent somewhere s, tt)
 
-  pub lookup-is : (s : List ℕ) (address pc : ℕ) → calls.lookup s address pc ≡ lookupOf s address pc
-  lookup-is s address pc = keeps.lookup ([], tt) (lent somewhere s, (address, (pc, tt)))
+  pub lookup_is : (s : List ℕ) (address pc : ℕ) → calls.lookup s address pc ≡ lookup_of s address pc
+  lookup_is s address pc = keeps.lookup ([], tt) (lent somewhere s, (address, (pc, tt)))
 
-  pub step_is : (s stack : List ℕ) (process : Process) (registers : Registers) → calls.step s stack process registers ≡ stepIn s stack process registers
+  pub step_is : (s stack : List ℕ) (process : Process) (registers : Registers) → calls.step s stack process registers ≡ step_in s stack process registers
   step_is s stack process registers = keeps.step ([], ([], tt)) (registers, (lent somewhere s, (lent somewhere stack, (process, tt))))
 
-  pub trace-is : (s stack : List ℕ) (process : Process) (registers : Registers) (limit : ℕ) (old : List ℕ)
-      → calls.trace s stack process registers limit old ≡ traceOf s stack process registers limit old
-  unfolding tracedAs
-  trace-is s stack process registers limit old =
+  pub trace_is : (s stack : List ℕ) (process : Process) (registers : Registers) (limit : ℕ) (old : List ℕ)
+      → calls.trace s stack process registers limit old ≡ trace_of s stack process registers limit old
+  unfolding traced_as
+  trace_is s stack process registers limit old =
       keeps.trace ([], ([], ([], tt))) (lent somewhere s, (lent somewhere stack, (process, (registers, (limit, (lent somewhere old, tt))))))

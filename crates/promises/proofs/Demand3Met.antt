@@ -7,39 +7,39 @@ use mathlib.Core.Bool.{true}
 use mathlib.Core.List.{List}
 use Prim.Native.Nat.{ℕ}
 use Rattle.numbers.specs.Start.{distance}
-use Rattle.numbers.specs.computed.Address.{windowFits}
+use Rattle.numbers.specs.Computed.Address.{window_fits}
 use Rattle.section.specs.Header.{layout_of}
-use Rattle.accept.specs.computed.Checks.{verdict}
+use Rattle.accept.specs.Computed.Checks.{verdict}
 use Rattle.accept.specs.declared.verdict.Verdict.TheVariants.{Accepted}
-use Rattle.lookup.specs.Finding.{findingOf}
-use Rattle.lookup.specs.computed.Answers.{answerAfter, lookupOf, lookIn}
+use Rattle.lookup.specs.Finding.{finding_of}
+use Rattle.lookup.specs.Computed.Answers.{answer_after, lookup_of, look_in_lem}
 use Rattle.lookup.proofs.CoveringLaws.{by_value}
-use Rattle.lookup.proofs.Exactly.{count-unsorted, count-halving, count-log, count-twenty}
-use Rattle.caller.specs.computed.Caller as caller
-use Rattle.caller.specs.computed.Caller.{stepIn}
+use Rattle.lookup.proofs.Exactly.{count_unsorted, count_halving, count_log, count_twenty}
+use Rattle.caller.specs.Computed.Caller as caller
+use Rattle.caller.specs.Computed.Caller.{step_in}
 use Rattle.caller.specs.declared.registers.Registers.{Registers}
 use Rattle.caller.specs.declared.registers.Process.{Process}
-use Rattle.caller.proofs.Exactly.{through-look}
-use Rattle.trace.proofs.Exactly.{trace-in-force, trace-through-look}
+use Rattle.caller.proofs.Exactly.{through_look}
+use Rattle.trace.proofs.Exactly.{trace_in_force, trace_through_look}
 use Rattle.promises.specs.Demand3.{Alike, Counts, Demand3}
-use Rattle.promises.specs.computed.Ours.{ours}
-use Rattle.promises.proofs.Demand2Met.{demand-2-ours}
-use Rattle.promises.proofs.OrderLaws.{same-finding, same_shape}
-use Rattle.promises.proofs.SortedLaws.{same-compared}
+use Rattle.promises.specs.Computed.Ours.{ours}
+use Rattle.promises.proofs.Demand2Met.{demand_2_ours}
+use Rattle.promises.proofs.OrderLaws.{same_finding, same_shape}
+use Rattle.promises.proofs.SortedLaws.{same_compared}
 
 -- what a lookup finds in an accepted section
-finding-is : (s : List ℕ) → verdict s ≡ Accepted → (address pc : ℕ) → findingOf (lookupOf s address pc).outcome ≡ lookIn s address pc
-unfolding lookupOf answerAfter lookIn
-finding-is s accepted address pc = rw accepted
+finding_is : (s : List ℕ) → verdict s ≡ Accepted → (address pc : ℕ) → finding_of (lookup_of s address pc).outcome ≡ look_in_lem s address pc
+unfolding lookup_of answer_after look_in_lem
+finding_is s accepted address pc = rw accepted
 
-counts-ours : (s : List ℕ) → verdict s ≡ Accepted → (address pc : ℕ) → Counts ours s address pc
+counts_ours : (s : List ℕ) → verdict s ≡ Accepted → (address pc : ℕ) → Counts ours s address pc
 unfolding ours
-counts-ours s accepted address pc =
+counts_ours s accepted address pc =
     record {
-      unsorted = count-unsorted s accepted address pc;
-      halving = count-halving s accepted address pc;
-      logarithm = count-log s accepted address pc;
-      twenty = count-twenty s accepted address pc;
+      unsorted = count_unsorted s accepted address pc;
+      halving = count_halving s accepted address pc;
+      logarithm = count_log s accepted address pc;
+      twenty = count_twenty s accepted address pc;
     }
 
 module _ (s t : List ℕ) (alike : Alike ours s t) where
@@ -51,40 +51,40 @@ module _ (s t : List ℕ) (alike : Alike ours s t) where
   unfolding ours
   accepted-t = alike.also
 
-  looks-same : (address pc : ℕ) → lookIn s address pc ≡ lookIn t address pc
-  looks-same = same-finding s t alike.same
+  looks-same : (address pc : ℕ) → look_in_lem s address pc ≡ look_in_lem t address pc
+  looks-same = same_finding s t alike.same
 
-  rows_same : (address pc : ℕ) → findingOf (lookupOf s address pc).outcome ≡ findingOf (lookupOf t address pc).outcome
+  rows_same : (address pc : ℕ) → finding_of (lookup_of s address pc).outcome ≡ finding_of (lookup_of t address pc).outcome
   rows_same address pc =
-      finding-is s accepted-s address pc ∙ looks-same address pc ∙ sym (finding-is t accepted-t address pc)
+      finding_is s accepted-s address pc ∙ looks-same address pc ∙ sym (finding_is t accepted-t address pc)
 
-  callers-same : (stack : List ℕ) (process : Process) (registers : Registers) → stepIn s stack process registers ≡ stepIn t stack process registers
-  unfolding stepIn caller.ifFits caller.stepAfter
+  callers-same : (stack : List ℕ) (process : Process) (registers : Registers) → step_in s stack process registers ≡ step_in t stack process registers
+  unfolding step_in caller.if_fits caller.step_after
   callers-same stack process registers =
-      let through = through-look s t process.section process.section (same_shape s t alike.same) (looks-same process.section) in
-      by_value (windowFits stack process.stack)
-      (λ fits. rw (fits, caller.ifFits) (rw (accepted-s, accepted-t, through)))
-      (λ past. rw (past, caller.ifFits))
+      let through = through_look s t process.section process.section (same_shape s t alike.same) (looks-same process.section) in
+      by_value (window_fits stack process.stack)
+      (λ fits. rw (fits, caller.if_fits) (rw (accepted-s, accepted-t, through)))
+      (λ past. rw (past, caller.if_fits))
 
   counts_same : (layout_of s).sorted ≡ true → (layout_of t).sorted ≡ true → (address pc : ℕ)
-      → (lookupOf s address pc).compared ≡ (lookupOf t address pc).compared
+      → (lookup_of s address pc).compared ≡ (lookup_of t address pc).compared
   counts_same sorted also address pc =
-      count-halving s accepted-s address pc sorted
-      ∙ same-compared s t accepted-s accepted-t sorted also alike.same (distance address pc)
-      ∙ sym (count-halving t accepted-t address pc also)
+      count_halving s accepted-s address pc sorted
+      ∙ same_compared s t accepted-s accepted-t sorted also alike.same (distance address pc)
+      ∙ sym (count_halving t accepted-t address pc also)
 
-pub demand-3-ours : Demand3 ours
+pub demand_3_ours : Demand3 ours
 unfolding ours
-demand-3-ours =
+demand_3_ours =
     record {
-      over-demand-2 = demand-2-ours;
+      over_demand_2 = demand_2_ours;
       rows = rows_same;
       callers = λ s t stack alike. callers-same s t alike stack;
       traces =
           λ s t stack alike process registers limit other same old.
-          trace-through-look s t stack process registers limit old (accepted-s s t alike) (accepted-t s t alike) (same_shape s t alike.same)
+          trace_through_look s t stack process registers limit old (accepted-s s t alike) (accepted-t s t alike) (same_shape s t alike.same)
           (looks-same s t alike process.section)
-          ∙ trace-in-force t stack process registers limit other old same;
-      counts = counts-ours;
-      sorted-counts = counts_same;
+          ∙ trace_in_force t stack process registers limit other old same;
+      counts = counts_ours;
+      sorted_counts = counts_same;
     }

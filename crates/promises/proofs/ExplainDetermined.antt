@@ -19,26 +19,26 @@ use Rattle.explain.proofs.sums.sum_of.Kinds as sum_of-kinds
 use Rattle.explain.proofs.sums.sum_of.Reads as sum_of-reads
 use Rattle.promises.specs.Determined.{Determined}
 
-pub no_coverers-determined : Determined no_coverers-kinds.ps no_coverers-kinds.r no_coverers-reads.Learnt
-no_coverers-determined κs a z z' w w' p q = (p ∙ sym q, refl)
+pub no_coverers_determined : Determined no_coverers-kinds.ps no_coverers-kinds.r no_coverers-reads.Learnt
+no_coverers_determined κs a z z' w w' p q = (p ∙ sym q, refl)
 
-pub all_covering-determined : Determined all_covering-kinds.ps all_covering-kinds.r all_covering-reads.Learnt
-all_covering-determined κs a z z' w w' p q = (p ∙ sym q, refl)
+pub all_covering_determined : Determined all_covering-kinds.ps all_covering-kinds.r all_covering-reads.Learnt
+all_covering_determined κs a z z' w w' p q = (p ∙ sym q, refl)
 
-pub nearest_at-determined : Determined nearest_at-kinds.ps nearest_at-kinds.r nearest_at-reads.Learnt
-nearest_at-determined κs a z z' w w' p q = (p ∙ sym q, refl)
+pub nearest_at_determined : Determined nearest_at-kinds.ps nearest_at-kinds.r nearest_at-reads.Learnt
+nearest_at_determined κs a z z' w w' p q = (p ∙ sym q, refl)
 
-pub explain_look-determined : Determined explain_look-kinds.ps explain_look-kinds.r explain_look-reads.Learnt
-explain_look-determined κs a z z' w w' p q = (p ∙ sym q, refl)
+pub explain_look_determined : Determined explain_look-kinds.ps explain_look-kinds.r explain_look-reads.Learnt
+explain_look_determined κs a z z' w w' p q = (p ∙ sym q, refl)
 
-pub explain_lookup-determined : Determined explain_lookup-kinds.ps explain_lookup-kinds.r explain_lookup-reads.Learnt
-explain_lookup-determined κs a z z' w w' p q = (p ∙ sym q, refl)
+pub explain_lookup_determined : Determined explain_lookup-kinds.ps explain_lookup-kinds.r explain_lookup-reads.Learnt
+explain_lookup_determined κs a z z' w w' p q = (p ∙ sym q, refl)
 
-pub explain_row-determined : Determined explain_row-kinds.ps explain_row-kinds.r explain_row-reads.Learnt
-explain_row-determined κs a z z' w w' p q = (p ∙ sym q, refl)
+pub explain_row_determined : Determined explain_row-kinds.ps explain_row-kinds.r explain_row-reads.Learnt
+explain_row_determined κs a z z' w w' p q = (p ∙ sym q, refl)
 
-pub explain_step-determined : Determined explain_step-kinds.ps explain_step-kinds.r explain_step-reads.Learnt
-explain_step-determined κs a z z' w w' p q = (p ∙ sym q, refl)
+pub explain_step_determined : Determined explain_step-kinds.ps explain_step-kinds.r explain_step-reads.Learnt
+explain_step_determined κs a z z' w w' p q = (p ∙ sym q, refl)
 
-pub sum_of-determined : Determined sum_of-kinds.ps sum_of-kinds.r sum_of-reads.Learnt
-sum_of-determined κs a z z' w w' p q = (p ∙ sym q, refl)
+pub sum_of_determined : Determined sum_of-kinds.ps sum_of-kinds.r sum_of-reads.Learnt
+sum_of_determined κs a z z' w w' p q = (p ∙ sym q, refl)

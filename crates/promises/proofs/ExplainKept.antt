@@ -3,34 +3,34 @@ use mathlib.Core.Path.{◌≡◌, refl, sym, subst}
 use mathlib.Core.List.{List, []}
 use Prim.Native.Nat.{ℕ}
 use Rattle.numbers.specs.declared.offset.Offset.{Offset}
-use Rattle.lookup.specs.computed.Answers.{lookupOf}
-use Rattle.caller.specs.computed.Caller.{stepIn}
+use Rattle.lookup.specs.Computed.Answers.{lookup_of}
+use Rattle.caller.specs.Computed.Caller.{step_in}
 use Rattle.caller.specs.declared.registers.Process.{Process}
 use Rattle.caller.specs.declared.registers.Registers.{Registers}
 use Rattle.explain.specs.Why.{WhyLookup, WhyStep}
-use Rattle.explain.specs.computed.Lookup.{lookupWhy}
-use Rattle.explain.specs.computed.Step.{stepWhy}
-use Rattle.explain.specs.computed.Sum.{sum_of}
-use Rattle.explain.proofs.Holds.{lookup-explained-holds, step-explained-holds}
-use Rattle.explain.proofs.Implies.{lookup-explained-implies, step-explained-implies}
+use Rattle.explain.specs.Computed.Lookup.{lookup_why}
+use Rattle.explain.specs.Computed.Step.{step_why}
+use Rattle.explain.specs.Computed.Sum.{sum_of}
+use Rattle.explain.proofs.Holds.{lookup_explained_holds, step_explained_holds}
+use Rattle.explain.proofs.Implies.{lookup_explained_implies, step_explained_implies}
 use Rattle.explain.proofs.SumLaws.{sum_is}
 use Rattle.promises.specs.ExplainCall.{ExplainCalls, Explains, KeepsExplain, ExplainPromised}
-use Rattle.promises.specs.computed.Ours.{ours}
-use Rattle.promises.specs.inner.Lent.{lent}
+use Rattle.promises.specs.Computed.Ours.{ours}
+use Rattle.promises.specs.Inner.Lent.{lent}
 use Rattle.promises.proofs.ContractLaws.{somewhere}
-use Rattle.promises.proofs.Kept.{kept-are-ours}
+use Rattle.promises.proofs.Kept.{kept_are_ours}
 
 -- ---- the contracts
 
-pub explain-kept : KeepsExplain (record { lookup = lookupWhy; step = stepWhy; sum = λ base offset. sum_of base offset.by })
-explain-kept = record { lookup = λ κs a. refl; step = λ κs a. refl; sum = λ κs a. refl }
+pub explain_kept : KeepsExplain (record { lookup = lookup_why; step = step_why; sum = λ base offset. sum_of base offset.by })
+explain_kept = record { lookup = λ κs a. refl; step = λ κs a. refl; sum = λ κs a. refl }
 
 -- calls that keep them answer as ours do
 module _ (explain : ExplainCalls) (keeps : KeepsExplain explain) where
-  lookup-ours : (s : List ℕ) (address pc : ℕ) → explain.lookup s address pc ≡ lookupWhy s address pc
+  lookup-ours : (s : List ℕ) (address pc : ℕ) → explain.lookup s address pc ≡ lookup_why s address pc
   lookup-ours s address pc = keeps.lookup ([], tt) (lent somewhere s, (address, (pc, tt)))
 
-  step-ours : (s stack : List ℕ) (process : Process) (registers : Registers) → explain.step s stack process registers ≡ stepWhy s stack process registers
+  step-ours : (s stack : List ℕ) (process : Process) (registers : Registers) → explain.step s stack process registers ≡ step_why s stack process registers
   step-ours s stack process registers = keeps.step ([], ([], tt)) (lent somewhere s, (lent somewhere stack, (process, (registers, tt))))
 
   sum-ours : (base : ℕ) (offset : Offset) → explain.sum base offset ≡ sum_of base offset.by
@@ -38,28 +38,28 @@ module _ (explain : ExplainCalls) (keeps : KeepsExplain explain) where
 
   -- ---- and so they explain
 
-  explains : Explains explain lookupOf stepIn
+  explains : Explains explain lookup_of step_in
   explains =
       record {
-        lookup-holds = lookup-holds;
-        lookup-implies = lookup-explained-implies;
-        lookup-explained = λ s address pc. lookup-explained-implies s address pc _ (lookup-holds s address pc);
-        step-holds = step-holds;
-        step-implies = step-explained-implies;
-        step-explained = λ s stack process registers.
-            step-explained-implies s stack process registers _ (step-holds s stack process registers);
-        sum-exact = λ base offset lt. rw (sum-ours base offset) (sum_is base offset.by lt);
+        lookup_holds = lookup_holds;
+        lookup_implies = lookup_explained_implies;
+        lookup_explained = λ s address pc. lookup_explained_implies s address pc _ (lookup_holds s address pc);
+        step_holds = step_holds;
+        step_implies = step_explained_implies;
+        step_explained = λ s stack process registers.
+            step_explained_implies s stack process registers _ (step_holds s stack process registers);
+        sum_exact = λ base offset lt. rw (sum-ours base offset) (sum_is base offset.by lt);
       }
     where
-      lookup-holds : (s : List ℕ) (address pc : ℕ) → WhyLookup s address pc (explain.lookup s address pc)
-      lookup-holds s address pc = subst (WhyLookup s address pc) (sym (lookup-ours s address pc)) (lookup-explained-holds s address pc)
+      lookup_holds : (s : List ℕ) (address pc : ℕ) → WhyLookup s address pc (explain.lookup s address pc)
+      lookup_holds s address pc = subst (WhyLookup s address pc) (sym (lookup-ours s address pc)) (lookup_explained_holds s address pc)
 
-      step-holds : (s stack : List ℕ) (process : Process) (registers : Registers)
+      step_holds : (s stack : List ℕ) (process : Process) (registers : Registers)
           → WhyStep s stack process registers (explain.step s stack process registers)
-      step-holds s stack process registers =
-          subst (WhyStep s stack process registers) (sym (step-ours s stack process registers)) (step-explained-holds s stack process registers)
+      step_holds s stack process registers =
+          subst (WhyStep s stack process registers) (sym (step-ours s stack process registers)) (step_explained_holds s stack process registers)
 
-pub explain-promised : ExplainPromised
+pub explain_promised : ExplainPromised
 unfolding ours
-explain-promised explain calls keeps looks =
-    subst (λ c. Explains explain c.lookup c.step) (sym (kept-are-ours calls looks)) (explains explain keeps)
+explain_promised explain calls keeps looks =
+    subst (λ c. Explains explain c.lookup c.step) (sym (kept_are_ours calls looks)) (explains explain keeps)

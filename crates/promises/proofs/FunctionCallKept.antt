@@ -14,31 +14,31 @@ use lib.Signed.{◌≤ℤ◌, ◌<ℤ◌}
 use borrow.Author.Tests.{ltb-true, lt-ltb}
 use Rattle.section.specs.Entry.{repeats}
 use Rattle.section.specs.Header.{layout_of}
-use Rattle.section.specs.Meaning.{plain, repeated, entryIn, block_of}
+use Rattle.section.specs.Meaning.{plain, repeated, entry_in, block_of}
 use Rattle.section.specs.declared.entry.Entry.{Entry}
-use Rattle.accept.specs.Given.{numberOfRule, HeaderBreaks}
-use Rattle.accept.specs.Rules.{functionCount, rowCount, Obeys}
-use Rattle.accept.specs.computed.Checks.{headerFault}
+use Rattle.accept.specs.Given.{number_of_rule, HeaderBreaks}
+use Rattle.accept.specs.Rules.{function_count, row_count, Obeys}
+use Rattle.accept.specs.Computed.Checks.{header_fault}
 use Rattle.accept.specs.declared.verdict.Fault.{Fault}
 use Rattle.accept.specs.declared.verdict.Fault.TheVariants.{Sound, Breaks}
-use Rattle.accept.proofs.CauseLaws.{rules-distinct, due-exactly-when}
-use Rattle.accept.proofs.Exactly.{header-exactly-when}
-use Rattle.accept.proofs.HeaderLaws.{numberOfFault, breaks-not-obeys, fault-due, fault-makes, fault-none}
-use Rattle.listing.specs.Functions.{kind_of, rowsPlace, facts_of, describedIn, describedBy, describedOf}
+use Rattle.accept.proofs.CauseLaws.{rules_distinct, due_exactly_when}
+use Rattle.accept.proofs.Exactly.{header_exactly_when}
+use Rattle.accept.proofs.HeaderLaws.{number_of_fault, breaks_not_obeys, fault_due, fault_makes, fault_none}
+use Rattle.listing.specs.Functions.{kind_of, rows_place, facts_of, described_in, described_by, described_of}
 use Rattle.listing.specs.declared.function.Described.{Described}
 use Rattle.listing.specs.declared.function.Described.TheVariants.{Unknown, Function}
 use Rattle.lookup.specs.Cases.{Covers}
-use Rattle.suntimpani.specs.Flat.{kindNumber, repeatOf, noFunction, flatFacts, flatFunction}
+use Rattle.suntimpani.specs.Flat.{kind_number, repeat_of, no_function, flat_facts, flat_function}
 use Rattle.suntimpani.specs.declared.functions.FunctionInC.{FunctionInC}
-use Rattle.promises.specs.FunctionCall.{FunctionCall, exportedFunction, HasFunction, NumberTold, EntryTold, NothingTold, TellsFunctions, KeepsFunction, FunctionPromised}
-use Rattle.promises.specs.inner.Lent.{lent}
+use Rattle.promises.specs.FunctionCall.{FunctionCall, exported_function, HasFunction, NumberTold, EntryTold, NothingTold, TellsFunctions, KeepsFunction, FunctionPromised}
+use Rattle.promises.specs.Inner.Lent.{lent}
 use Rattle.promises.proofs.ContractLaws.{somewhere}
 
 -- ---- the block of an entry, by its bit
 
-is-repeated : (entry : Entry) → repeats entry.info ≡ true → block_of entry ≡ repeated entry.repeat
+is_repeated : (entry : Entry) → repeats entry.info ≡ true → block_of entry ≡ repeated entry.repeat
 unfolding block_of
-is-repeated entry set = rw (set, block_of) refl
+is_repeated entry set = rw (set, block_of) refl
 
 is_plain : (entry : Entry) → repeats entry.info ≡ false → block_of entry ≡ plain
 unfolding block_of
@@ -48,76 +48,76 @@ is_plain entry unset = rw (unset, block_of) refl
 
 module _ (s : List ℕ) (index : ℕ) where
   -- what is said of the index by the test of it
-  abbrev byTest : Bool → Described
-  byTest below = elim below [ true ↦ Function (facts_of s index) | false ↦ Unknown ]
+  abbrev by_test : Bool → Described
+  by_test below = elim below [ true ↦ Function (facts_of s index) | false ↦ Unknown ]
 
-  answers : {fault : Fault} → headerFault s ≡ fault → exportedFunction s index ≡ flatFunction (describedBy fault s index)
-  unfolding exportedFunction describedOf
-  answers is = ap (λ fault. flatFunction (describedBy fault s index)) is
+  answers : {fault : Fault} → header_fault s ≡ fault → exported_function s index ≡ flat_function (described_by fault s index)
+  unfolding exported_function described_of
+  answers is = ap (λ fault. flat_function (described_by fault s index)) is
 
-  number_is : (exportedFunction s index).number ≡ numberOfFault (headerFault s)
-  unfolding exportedFunction describedOf describedBy describedIn flatFunction flatFacts noFunction numberOfFault
-  number_is = by (headerFault s)
+  number_is : (exported_function s index).number ≡ number_of_fault (header_fault s)
+  unfolding exported_function described_of described_by described_in flat_function flat_facts no_function number_of_fault
+  number_is = by (header_fault s)
     where
-      inside : (b : Bool) → (flatFunction (byTest b)).number ≡ 0
+      inside : (b : Bool) → (flat_function (by_test b)).number ≡ 0
       inside true = refl
       inside false = refl
 
-      by : (fault : Fault) → (flatFunction (describedBy fault s index)).number ≡ numberOfFault fault
+      by : (fault : Fault) → (flat_function (described_by fault s index)).number ≡ number_of_fault fault
       by Sound = inside (ltb index (layout_of s).functions)
       by (Breaks number) = refl
 
   abbrev KnownHere : Type 0
-  KnownHere = HasFunction s index × (exportedFunction s index ≡ flatFacts (facts_of s index))
+  KnownHere = HasFunction s index × (exported_function s index ≡ flat_facts (facts_of s index))
 
   abbrev UnknownHere : Type 0
-  UnknownHere = (¬ HasFunction s index) × (number : ℕ) × (exportedFunction s index ≡ noFunction number)
+  UnknownHere = (¬ HasFunction s index) × (number : ℕ) × (exported_function s index ≡ no_function number)
 
   known-or-not : KnownHere ⊎ UnknownHere
-  unfolding describedBy describedIn flatFunction functionCount
-  known-or-not = by (headerFault s) refl
+  unfolding described_by described_in flat_function function_count
+  known-or-not = by (header_fault s) refl
     where
-      inside : headerFault s ≡ Sound → (b : Bool) → ltb index (layout_of s).functions ≡ b → KnownHere ⊎ UnknownHere
-      inside sound true is = inl (((header-exactly-when s).0 sound, ltb-true _ _ is), answers sound ∙ ap (λ b. flatFunction (byTest b)) is)
+      inside : header_fault s ≡ Sound → (b : Bool) → ltb index (layout_of s).functions ≡ b → KnownHere ⊎ UnknownHere
+      inside sound true is = inl (((header_exactly_when s).0 sound, ltb-true _ _ is), answers sound ∙ ap (λ b. flat_function (by_test b)) is)
       inside sound false is =
-          inr ((λ has. false≢true (sym is ∙ lt-ltb _ _ has.1)), 0, answers sound ∙ ap (λ b. flatFunction (byTest b)) is)
+          inr ((λ has. false≢true (sym is ∙ lt-ltb _ _ has.1)), 0, answers sound ∙ ap (λ b. flat_function (by_test b)) is)
 
-      by : (fault : Fault) → headerFault s ≡ fault → KnownHere ⊎ UnknownHere
+      by : (fault : Fault) → header_fault s ≡ fault → KnownHere ⊎ UnknownHere
       by Sound is = inside is (ltb index (layout_of s).functions) refl
-      by (Breaks number) is = inr ((λ has. breaks-not-obeys s number is has.0), number, answers is)
+      by (Breaks number) is = inr ((λ has. breaks_not_obeys s number is has.0), number, answers is)
 
-  number-told : NumberTold s (exportedFunction s index)
+  number-told : NumberTold s (exported_function s index)
   number-told =
       rw number_is
       (record {
-        given = due-exactly-when numberOfRule rules-distinct _ (HeaderBreaks s) (fault-due s) (fault-makes s);
-        none = fault-none s;
-        no_other = ⊎_elim inl (λ due. inr (due.0, due.1)) (fault-due s);
-        at-most-8 = ⊎_elim (λ none. omega (arith, none)) (λ due. omega (arith, due.1, due.2.0)) (fault-due s);
+        given = due_exactly_when number_of_rule rules_distinct _ (HeaderBreaks s) (fault_due s) (fault_makes s);
+        none = fault_none s;
+        no_other = ⊎_elim inl (λ due. inr (due.0, due.1)) (fault_due s);
+        at_most_8 = ⊎_elim (λ none. omega (arith, none)) (λ due. omega (arith, due.1, due.2.0)) (fault_due s);
       })
 
-  entry-told : exportedFunction s index ≡ flatFacts (facts_of s index) → EntryTold s index (exportedFunction s index)
-  unfolding flatFacts facts_of rowsPlace kind_of kindNumber repeatOf rowCount
-  entry-told is =
+  entry_told : exported_function s index ≡ flat_facts (facts_of s index) → EntryTold s index (exported_function s index)
+  unfolding flat_facts facts_of rows_place kind_of kind_number repeat_of row_count
+  entry_told is =
       rw is
       (record {
         start = refl;
         size = refl;
         rows = refl;
-        repeated = λ set. let block = is-repeated (entryIn s index) set in (rw block, rw block);
-        plain = λ unset. let block = is_plain (entryIn s index) unset in (rw block, rw block);
+        repeated = λ set. let block = is_repeated (entry_in s index) set in (rw block, rw block);
+        plain = λ unset. let block = is_plain (entry_in s index) unset in (rw block, rw block);
       })
 
-  nothing-told : (number : ℕ) → exportedFunction s index ≡ noFunction number → NothingTold (exportedFunction s index)
-  unfolding noFunction
+  nothing-told : (number : ℕ) → exported_function s index ≡ no_function number → NothingTold (exported_function s index)
+  unfolding no_function
   nothing-told number is =
       rw is (record { known = refl; start = refl; size = refl; rows = refl; repeated = refl; repeat = refl })
 
 -- ---- so it meets what is promised
 
-pub exported-tells : TellsFunctions exportedFunction
-unfolding flatFacts noFunction
-exported-tells =
+pub exported_tells : TellsFunctions exported_function
+unfolding flat_facts no_function
+exported_tells =
     record {
       number = number-told;
       known = λ s index.
@@ -126,24 +126,24 @@ exported-tells =
           (λ not-here. ((λ one. absurd (omega (arith, one, ap (λ (told : FunctionInC). told.known) not-here.2))), λ has. absurd (not-here.0 has)))
           (known-or-not s index);
       told = λ s index has.
-          ⊎_elim (λ here. entry-told s index here.1) (λ not-here. absurd (not-here.0 has)) (known-or-not s index);
+          ⊎_elim (λ here. entry_told s index here.1) (λ not-here. absurd (not-here.0 has)) (known-or-not s index);
       untold = λ s index hasnt.
           ⊎_elim (λ here. absurd (hasnt here.0)) (λ not-here. nothing-told s index not-here.1 not-here.2) (known-or-not s index);
     }
 
 -- ---- the contract
 
-pub function-kept : KeepsFunction exportedFunction
-unfolding exportedFunction
-function-kept κs a = refl
+pub function_kept : KeepsFunction exported_function
+unfolding exported_function
+function_kept κs a = refl
 
 -- a call that keeps it is ours
-kept-is-exported : (call : FunctionCall) → KeepsFunction call → call ≡ exportedFunction
-unfolding exportedFunction
-kept-is-exported call keeps = fun_ext λ s. fun_ext λ index. keeps ([], tt) (lent somewhere s, (index, tt))
+kept_is_exported : (call : FunctionCall) → KeepsFunction call → call ≡ exported_function
+unfolding exported_function
+kept_is_exported call keeps = fun_ext λ s. fun_ext λ index. keeps ([], tt) (lent somewhere s, (index, tt))
 
-pub function-promised : FunctionPromised
-function-promised call keeps = subst TellsFunctions (sym (kept-is-exported call keeps)) exported-tells
+pub function_promised : FunctionPromised
+function_promised call keeps = subst TellsFunctions (sym (kept_is_exported call keeps)) exported_tells
 
 -- ---- and no other call meets it
 
@@ -161,9 +161,9 @@ module _ (one other : FunctionCall) (first : TellsFunctions one) (second : Tells
   SameBlock = ((one s index).repeated ≡ (other s index).repeated) × ((one s index).repeat ≡ (other s index).repeat)
 
   same_block : EntryTold s index (one s index) → EntryTold s index (other s index) → SameBlock
-  same_block t u = by (repeats (entryIn s index).info) refl
+  same_block t u = by (repeats (entry_in s index).info) refl
     where
-      by : (bit : Bool) → repeats (entryIn s index).info ≡ bit → SameBlock
+      by : (bit : Bool) → repeats (entry_in s index).info ≡ bit → SameBlock
       by true set = ((t.repeated set).0 ∙ sym (u.repeated set).0, (t.repeated set).1 ∙ sym (u.repeated set).1)
       by false unset = ((t.plain unset).0 ∙ sym (u.plain unset).0, (t.plain unset).1 ∙ sym (u.plain unset).1)
 
@@ -197,21 +197,21 @@ module _ (one other : FunctionCall) (first : TellsFunctions one) (second : Tells
         repeat = (t.repeat ∙ sym u.repeat) i;
       }
 
-  pub functions-told-alike : one s index ≡ other s index
-  functions-told-alike = by (ℕ_discrete (one s index).known 1)
+  pub functions_told_alike : one s index ≡ other s index
+  functions_told_alike = by (ℕ_discrete (one s index).known 1)
     where
       by : Dec ((one s index).known ≡ 1) → one s index ≡ other s index
       by (yes is) = same_known is
       by (no isnt) = same-unknown isnt
 
-pub function-ours-alone : (call : FunctionCall) → TellsFunctions call → call ≡ exportedFunction
-function-ours-alone call tells = fun_ext λ s. fun_ext λ index. functions-told-alike call exportedFunction tells exported-tells s index
+pub function_ours_alone : (call : FunctionCall) → TellsFunctions call → call ≡ exported_function
+function_ours_alone call tells = fun_ext λ s. fun_ext λ index. functions_told_alike call exported_function tells exported_tells s index
 
 -- ---- what it is for: the function that covers a PC of an accepted section, by its index, is told with bounds that hold the PC
 
-pub covering-function-told : (call : FunctionCall) → TellsFunctions call → (s : List ℕ) → Obeys s → (d : ℤ) (i : ℕ) → Covers s d i
+pub covering_function_told : (call : FunctionCall) → TellsFunctions call → (s : List ℕ) → Obeys s → (d : ℤ) (i : ℕ) → Covers s d i
     → ((call s i).known ≡ 1) × ((call s i).start ≤ℤ d) × (d <ℤ ((call s i).start +ℤ pos (call s i).size))
-covering-function-told call tells s obeys d i covers =
+covering_function_told call tells s obeys d i covers =
     let has : HasFunction s i = (obeys.header, covers.0) in
     let entry = tells.told s i has in
     ((tells.known s i).1 has, rw entry.start covers.1, rw (entry.start, entry.size) covers.2)

@@ -5,22 +5,22 @@ use mathlib.Core.Path.{◌≡◌, refl}
 use Prim.Native.Nat.{ℕ}
 use lib.IntN.{pos}
 use lib.ListN.{take}
-use Rattle.section.specs.SectionS.{sectionS, overlappingS}
-use Rattle.listing.specs.Functions.{kind_of, rowsPlace, facts_of, describedIn, describedBy, describedOf}
-use Rattle.trace.specs.inner.Opened.{traceOpened}
-use Rattle.suntimpani.specs.Flat.{kindNumber, repeatOf, noFunction, flatFacts, flatFunction}
+use Rattle.section.specs.SectionS.{section_s, overlapping_s}
+use Rattle.listing.specs.Functions.{kind_of, rows_place, facts_of, described_in, described_by, described_of}
+use Rattle.trace.specs.Inner.Opened.{trace_opened}
+use Rattle.suntimpani.specs.Flat.{kind_number, repeat_of, no_function, flat_facts, flat_function}
 use Rattle.suntimpani.specs.declared.functions.FunctionInC.{FunctionInC}
-use Rattle.promises.specs.FunctionCall.{exportedFunction}
+use Rattle.promises.specs.FunctionCall.{exported_function}
 
 -- a plain function
-abbrev plainAt : ℕ → ℕ → ℕ → FunctionInC
-plainAt start size rows = record { number = 0; known = 1; start = pos start; size = size; rows = rows; repeated = 0; repeat = 0 }
+abbrev plain_at : ℕ → ℕ → ℕ → FunctionInC
+plain_at start size rows = record { number = 0; known = 1; start = pos start; size = size; rows = rows; repeated = 0; repeat = 0 }
 
-pub functions-of-s : (exportedFunction sectionS 0 ≡ plainAt 0x1000 0x20 2)
-    × (exportedFunction sectionS 1 ≡ plainAt 0x1040 0x10 1)
-    × (exportedFunction sectionS 2 ≡ noFunction 0)
-    × (exportedFunction (take 27 sectionS) 0 ≡ noFunction 1)
-    × (exportedFunction (take 77 sectionS) 0 ≡ noFunction 8)
-    × (exportedFunction overlappingS 1 ≡ plainAt 0x101f 0x10 1)
-unfolding traceOpened sectionS overlappingS kind_of rowsPlace facts_of describedIn describedBy describedOf kindNumber repeatOf noFunction flatFacts flatFunction exportedFunction
-functions-of-s = (refl, refl, refl, refl, refl, refl)
+pub functions_of_s : (exported_function section_s 0 ≡ plain_at 0x1000 0x20 2)
+    × (exported_function section_s 1 ≡ plain_at 0x1040 0x10 1)
+    × (exported_function section_s 2 ≡ no_function 0)
+    × (exported_function (take 27 section_s) 0 ≡ no_function 1)
+    × (exported_function (take 77 section_s) 0 ≡ no_function 8)
+    × (exported_function overlapping_s 1 ≡ plain_at 0x101f 0x10 1)
+unfolding trace_opened section_s overlapping_s kind_of rows_place facts_of described_in described_by described_of kind_number repeat_of no_function flat_facts flat_function exported_function
+functions_of_s = (refl, refl, refl, refl, refl, refl)

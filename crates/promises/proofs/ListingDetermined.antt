@@ -29,55 +29,55 @@ use Rattle.listing.proofs.rows.row_turn.Reads as row_turn-reads
 use Rattle.listing.specs.declared.rows.RowTurn.{RowTurn}
 use Rattle.promises.specs.ByClauses.{DeterminedBy}
 use Rattle.promises.specs.Determined.{Determined}
-use Rattle.promises.specs.ReaderSays.{reader-says, turn-says}
+use Rattle.promises.specs.ReaderSays.{reader_says, turn_says}
 
-pub function_at-determined : Determined function_at-kinds.ps function_at-kinds.r function_at-reads.Learnt
-function_at-determined κs a z z' w w' p q = (p ∙ sym q, refl)
+pub function_at_determined : Determined function_at-kinds.ps function_at-kinds.r function_at-reads.Learnt
+function_at_determined κs a z z' w w' p q = (p ∙ sym q, refl)
 
-pub facts_at-determined : Determined facts_at-kinds.ps facts_at-kinds.r facts_at-reads.Learnt
-facts_at-determined κs a z z' w w' p q = (p ∙ sym q, refl)
+pub facts_at_determined : Determined facts_at-kinds.ps facts_at-kinds.r facts_at-reads.Learnt
+facts_at_determined κs a z z' w w' p q = (p ∙ sym q, refl)
 
-pub nowhere-determined : Determined nowhere-kinds.ps nowhere-kinds.r nowhere-reads.Learnt
-nowhere-determined κs a z z' w w' p q = (p ∙ sym q, refl)
+pub nowhere_determined : Determined nowhere-kinds.ps nowhere-kinds.r nowhere-reads.Learnt
+nowhere_determined κs a z z' w w' p q = (p ∙ sym q, refl)
 
-pub ended_at-determined : Determined ended_at-kinds.ps ended_at-kinds.r ended_at-reads.Learnt
-ended_at-determined κs a z z' w w' p q = (p ∙ sym q, refl)
+pub ended_at_determined : Determined ended_at-kinds.ps ended_at-kinds.r ended_at-reads.Learnt
+ended_at_determined κs a z z' w w' p q = (p ∙ sym q, refl)
 
-pub row_turn-determined : Determined row_turn-kinds.ps row_turn-kinds.r row_turn-reads.Learnt
-row_turn-determined κs a z z' w w' p q = (p ∙ sym q, refl)
+pub row_turn_determined : Determined row_turn-kinds.ps row_turn-kinds.r row_turn-reads.Learnt
+row_turn_determined κs a z z' w w' p q = (p ∙ sym q, refl)
 
-pub cursor_over-determined : Determined cursor_over-kinds.ps cursor_over-kinds.r cursor_over-reads.Learnt
-cursor_over-determined κs a z z' w w' p q = (p ∙ sym q, refl)
+pub cursor_over_determined : Determined cursor_over-kinds.ps cursor_over-kinds.r cursor_over-reads.Learnt
+cursor_over_determined κs a z z' w w' p q = (p ∙ sym q, refl)
 
-pub cursor_of-determined : Determined cursor_of-kinds.ps cursor_of-kinds.r cursor_of-reads.Learnt
-cursor_of-determined κs a z z' w w' p q = (p ∙ sym q, refl)
+pub cursor_of_determined : Determined cursor_of-kinds.ps cursor_of-kinds.r cursor_of-reads.Learnt
+cursor_of_determined κs a z z' w w' p q = (p ∙ sym q, refl)
 
-pub cursor_at-determined : Determined cursor_at-kinds.ps cursor_at-kinds.r cursor_at-reads.Learnt
-cursor_at-determined κs a z z' w w' p q = (p ∙ sym q, refl)
+pub cursor_at_determined : Determined cursor_at-kinds.ps cursor_at-kinds.r cursor_at-reads.Learnt
+cursor_at_determined κs a z z' w w' p q = (p ∙ sym q, refl)
 
-pub next_line-determined : Determined next_line-kinds.ps next_line-kinds.r next_line-reads.Learnt
-next_line-determined κs a z z' w w' p q = (p ∙ sym q, refl)
+pub next_line_determined : Determined next_line-kinds.ps next_line-kinds.r next_line-reads.Learnt
+next_line_determined κs a z z' w w' p q = (p ∙ sym q, refl)
 
-pub place_of-determined : Determined place_of-kinds.ps place_of-kinds.r place_of-reads.Learnt
-place_of-determined κs a z z' w w' p q = (p ∙ sym q, refl)
+pub place_of_determined : Determined place_of-kinds.ps place_of-kinds.r place_of-reads.Learnt
+place_of_determined κs a z z' w w' p q = (p ∙ sym q, refl)
 
 -- ---- what has a reader: a reader is what it holds, so that two with equal parts are equal
 
-pub reader_of-determined : DeterminedBy reader_of.ended reader_of.clauses
-reader_of-determined =
+pub reader_of_determined : DeterminedBy reader_of.ended reader_of.clauses
+reader_of_determined =
     record {
-      says = reader-says;
+      says = reader_says;
       determined = λ κs a z z' w w' p q. (λ i. record { section = (p.0 ∙ sym q.0) i; place = (p.1 ∙ sym q.1) i }, refl);
     }
 
-pub next_row-determined : DeterminedBy next_row.ended next_row.clauses
-next_row-determined =
+pub next_row_determined : DeterminedBy next_row.ended next_row.clauses
+next_row_determined =
     record {
-      says = turn-says;
+      says = turn_says;
       determined = λ κs a z z' w w' p q.
           let turn = p.1 ∙ sym q.1 in
           (ap (λ (t : RowTurn). t.next) turn, λ i. (record { section = (p.0 ∙ sym q.0) i; place = (turn i).place }, tt));
     }
 
-pub place_in-determined : Determined place_in-kinds.ps place_in-kinds.r place_in-reads.Learnt
-place_in-determined κs a z z' w w' p q = (p ∙ sym q, refl)
+pub place_in_determined : Determined place_in-kinds.ps place_in-kinds.r place_in-reads.Learnt
+place_in_determined κs a z z' w w' p q = (p ∙ sym q, refl)

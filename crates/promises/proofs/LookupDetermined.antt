@@ -19,26 +19,26 @@ use Rattle.lookup.proofs.table.entry_in.Kinds as entry_in-kinds
 use Rattle.lookup.proofs.table.entry_in.Reads as entry_in-reads
 use Rattle.promises.specs.Determined.{Determined}
 
-pub block_offset-determined : Determined block_offset-kinds.ps block_offset-kinds.r block_offset-reads.Learnt
-block_offset-determined κs a z z' w w' p q = (p ∙ sym q, refl)
+pub block_offset_determined : Determined block_offset-kinds.ps block_offset-kinds.r block_offset-reads.Learnt
+block_offset_determined κs a z z' w w' p q = (p ∙ sym q, refl)
 
-pub look-determined : Determined look-kinds.ps look-kinds.r look-reads.Learnt
-look-determined κs a z z' w w' p q = (p ∙ sym q, refl)
+pub look_determined : Determined look-kinds.ps look-kinds.r look-reads.Learnt
+look_determined κs a z z' w w' p q = (p ∙ sym q, refl)
 
-pub lookup-determined : Determined lookup-kinds.ps lookup-kinds.r lookup-reads.Learnt
-lookup-determined κs a z z' w w' p q = (p ∙ sym q, refl)
+pub lookup_determined : Determined lookup-kinds.ps lookup-kinds.r lookup-reads.Learnt
+lookup_determined κs a z z' w w' p q = (p ∙ sym q, refl)
 
-pub scan_rows-determined : Determined scan_rows-kinds.ps scan_rows-kinds.r scan_rows-reads.Learnt
-scan_rows-determined κs a z z' w w' p q = (p ∙ sym q, refl)
+pub scan_rows_determined : Determined scan_rows-kinds.ps scan_rows-kinds.r scan_rows-reads.Learnt
+scan_rows_determined κs a z z' w w' p q = (p ∙ sym q, refl)
 
-pub land-determined : Determined land-kinds.ps land-kinds.r land-reads.Learnt
-land-determined κs a z z' w w' p q = (p.0 ∙ sym q.0, refl)
+pub land_determined : Determined land-kinds.ps land-kinds.r land-reads.Learnt
+land_determined κs a z z' w w' p q = (p.0 ∙ sym q.0, refl)
 
-pub past_in-determined : Determined past_in-kinds.ps past_in-kinds.r past_in-reads.Learnt
-past_in-determined κs a z z' w w' p q = (p ∙ sym q, refl)
+pub past_in_determined : Determined past_in-kinds.ps past_in-kinds.r past_in-reads.Learnt
+past_in_determined κs a z z' w w' p q = (p ∙ sym q, refl)
 
-pub find-determined : Determined find-kinds.ps find-kinds.r find-reads.Learnt
-find-determined κs a z z' w w' p q = (p ∙ sym q, refl)
+pub find_determined : Determined find-kinds.ps find-kinds.r find-reads.Learnt
+find_determined κs a z z' w w' p q = (p ∙ sym q, refl)
 
-pub entry_in-determined : Determined entry_in-kinds.ps entry_in-kinds.r entry_in-reads.Learnt
-entry_in-determined κs a z z' w w' p q = (p ∙ sym q, refl)
+pub entry_in_determined : Determined entry_in-kinds.ps entry_in-kinds.r entry_in-reads.Learnt
+entry_in_determined κs a z z' w w' p q = (p ∙ sym q, refl)

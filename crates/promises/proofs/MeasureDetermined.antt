@@ -11,14 +11,14 @@ use Rattle.measure.proofs.row_weight.Kinds as row_weight-kinds
 use Rattle.measure.proofs.row_weight.Reads as row_weight-reads
 use Rattle.promises.specs.Determined.{Determined}
 
-pub measure_finds-determined : Determined measure_finds-kinds.ps measure_finds-kinds.r measure_finds-reads.Learnt
-measure_finds-determined κs a z z' w w' p q = (p ∙ sym q, refl)
+pub measure_finds_determined : Determined measure_finds-kinds.ps measure_finds-kinds.r measure_finds-reads.Learnt
+measure_finds_determined κs a z z' w w' p q = (p ∙ sym q, refl)
 
-pub low_of-determined : Determined low_of-kinds.ps low_of-kinds.r low_of-reads.Learnt
-low_of-determined κs a z z' w w' p q = (p.0 ∙ sym q.0, refl)
+pub low_of_determined : Determined low_of-kinds.ps low_of-kinds.r low_of-reads.Learnt
+low_of_determined κs a z z' w w' p q = (p.0 ∙ sym q.0, refl)
 
-pub magnitude_of-determined : Determined magnitude_of-kinds.ps magnitude_of-kinds.r magnitude_of-reads.Learnt
-magnitude_of-determined κs a z z' w w' p q = (p.0 ∙ sym q.0, refl)
+pub magnitude_of_determined : Determined magnitude_of-kinds.ps magnitude_of-kinds.r magnitude_of-reads.Learnt
+magnitude_of_determined κs a z z' w w' p q = (p.0 ∙ sym q.0, refl)
 
-pub row_weight-determined : Determined row_weight-kinds.ps row_weight-kinds.r row_weight-reads.Learnt
-row_weight-determined κs a z z' w w' p q = (p.0 ∙ sym q.0, refl)
+pub row_weight_determined : Determined row_weight-kinds.ps row_weight-kinds.r row_weight-reads.Learnt
+row_weight_determined κs a z z' w w' p q = (p.0 ∙ sym q.0, refl)

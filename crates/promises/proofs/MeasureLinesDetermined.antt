@@ -5,5 +5,5 @@ use Rattle.measure_lines.proofs.measure_listing.Kinds as measure_listing-kinds
 use Rattle.measure_lines.proofs.measure_listing.Reads as measure_listing-reads
 use Rattle.promises.specs.Determined.{Determined}
 
-pub measure_listing-determined : Determined measure_listing-kinds.ps measure_listing-kinds.r measure_listing-reads.Learnt
-measure_listing-determined κs a z z' w w' p q = (p ∙ sym q, refl)
+pub measure_listing_determined : Determined measure_listing-kinds.ps measure_listing-kinds.r measure_listing-reads.Learnt
+measure_listing_determined κs a z z' w w' p q = (p ∙ sym q, refl)

@@ -11,23 +11,23 @@ use lib.ListN.{take, drop, set}
 use lib.Seq.{drop-set-lt, drop-set-add, take-set-le}
 use borrow.Author.Tests.{ltb-true, ltb-false}
 use Rattle.numbers.specs.Start.{distance}
-use Rattle.numbers.specs.inner.Held.{natural}
+use Rattle.numbers.specs.Inner.Held.{natural}
 use Rattle.section.specs.Entry.{type_of}
-use Rattle.section.specs.Meaning.{areaOf, shape_of, entryIn}
-use Rattle.section.specs.SectionS.{sectionS}
-use Rattle.accept.specs.Rules.{functionCount}
-use Rattle.accept.specs.computed.Checks.{verdict}
+use Rattle.section.specs.Meaning.{area_of, shape_of, entry_in}
+use Rattle.section.specs.SectionS.{section_s}
+use Rattle.accept.specs.Rules.{function_count}
+use Rattle.accept.specs.Computed.Checks.{verdict}
 use Rattle.accept.specs.declared.verdict.Verdict.TheVariants.{Accepted}
 use Rattle.lookup.specs.Cases.{Covers, OffsetIs}
 use Rattle.lookup.specs.Scanned.{start_in, LookAlike, LookedAt, of-passed, of-found, of-stop}
-use Rattle.lookup.specs.computed.Answers.{lookupOf}
+use Rattle.lookup.specs.Computed.Answers.{lookup_of}
 use Rattle.lookup.specs.declared.answer.Outcome.{Outcome}
 use Rattle.lookup.specs.declared.answer.Outcome.TheVariants.{Found, Unsound, NoFunction, Dispute, NoRow}
-use Rattle.lookup.specs.inner.Opened.{lookupOpened}
-use Rattle.lookup.proofs.AnswerAgreement.{answer-agrees}
+use Rattle.lookup.specs.Inner.Opened.{lookup_opened}
+use Rattle.lookup.proofs.AnswerAgreement.{answer_agrees}
 use Rattle.lookup.proofs.CoveringLaws.{by_value}
-use Rattle.lookup.proofs.OffsetWithinLaws.{offset-unique}
-use Rattle.promises.specs.PassedRows.{otherOffsetS}
+use Rattle.lookup.proofs.OffsetWithinLaws.{offset_unique}
+use Rattle.promises.specs.PassedRows.{other_offset_s}
 
 -- a byte that is set changes no other
 elsewhere : (bytes : List ℕ) (i p a : ℕ) → ¬ (p ≡ i) → take 1 (drop p bytes) ≡ take 1 (drop p (set bytes i a))
@@ -46,64 +46,64 @@ elsewhere bytes i p a other =
 abbrev d : ℤ
 d = distance 0x400000 0x401004
 
-accepted : verdict sectionS ≡ Accepted
-unfolding lookupOpened sectionS
+accepted : verdict section_s ≡ Accepted
+unfolding lookup_opened section_s
 accepted = refl
 
-also : verdict otherOffsetS ≡ Accepted
-unfolding lookupOpened sectionS otherOffsetS
+also : verdict other_offset_s ≡ Accepted
+unfolding lookup_opened section_s other_offset_s
 also = refl
 
 abbrev Looked : ℕ → ℕ → ℕ → Type 0
-Looked i o p = LookedAt (areaOf sectionS) (shape_of sectionS).order (type_of (entryIn sectionS i).info) (entryIn sectionS i).first (entryIn sectionS i).rows o p
+Looked i o p = LookedAt (area_of section_s) (shape_of section_s).order (type_of (entry_in section_s i).info) (entry_in section_s i).first (entry_in section_s i).rows o p
 
 -- both rows of the first function start at or below o, which is 4
 starts : (k : ℕ) → k < 2
-    → start_in (areaOf sectionS) (shape_of sectionS).order (type_of (entryIn sectionS 0).info) (entryIn sectionS 0).first k ≤ 4
-unfolding lookupOpened sectionS
+    → start_in (area_of section_s) (shape_of section_s).order (type_of (entry_in section_s 0).info) (entry_in section_s 0).first k ≤ 4
+unfolding lookup_opened section_s
 starts zero lt = omega arith
 starts (suc zero) lt = omega arith
 starts (suc (suc k)) lt = absurd (omega arith)
 
-offset-four : {o : ℕ} → OffsetIs sectionS d 0 o → o ≡ 4
-unfolding lookupOpened sectionS
-offset-four offset = offset-unique offset
+offset_four : {o : ℕ} → OffsetIs section_s d 0 o → o ≡ 4
+unfolding lookup_opened section_s
+offset_four offset = offset_unique offset
 
 -- byte 2 of the row area, the first row's offset, is not looked at
-not-looked-at : (i o p : ℕ) → Covers sectionS d i → OffsetIs sectionS d i o → Looked i o p → ¬ (p ≡ 2)
-unfolding lookupOpened sectionS functionCount
-not-looked-at zero o p covered offset (of-passed zero row span) is = let below : p < 2 = span.1 in omega arith
-not-looked-at zero o p covered offset (of-passed (suc zero) row span) is = let from : 3 ≤ p = span.0 in omega arith
-not-looked-at zero o p covered offset (of-passed (suc (suc k)) row span) is = let inside : suc (suc k) < 2 = row.0 in omega arith
-not-looked-at zero o p covered offset (of-found zero last span) is =
-    let both = last.1 1 (omega arith, λ j le. rw (offset-four offset) (starts j (omega arith))) in
+not_looked_at : (i o p : ℕ) → Covers section_s d i → OffsetIs section_s d i o → Looked i o p → ¬ (p ≡ 2)
+unfolding lookup_opened section_s function_count
+not_looked_at zero o p covered offset (of-passed zero row span) is = let below : p < 2 = span.1 in omega arith
+not_looked_at zero o p covered offset (of-passed (suc zero) row span) is = let from : 3 ≤ p = span.0 in omega arith
+not_looked_at zero o p covered offset (of-passed (suc (suc k)) row span) is = let inside : suc (suc k) < 2 = row.0 in omega arith
+not_looked_at zero o p covered offset (of-found zero last span) is =
+    let both = last.1 1 (omega arith, λ j le. rw (offset_four offset) (starts j (omega arith))) in
     omega arith
-not-looked-at zero o p covered offset (of-found (suc zero) last span) is = let from : 3 ≤ p = span.0 in omega arith
-not-looked-at zero o p covered offset (of-found (suc (suc k)) last span) is = let inside : suc (suc k) < 2 = last.0.0 in omega arith
-not-looked-at zero o p covered offset (of-stop zero stop span) is = let above : o < 0 = stop.1 in omega arith
-not-looked-at zero o p covered offset (of-stop (suc zero) stop span) is =
+not_looked_at zero o p covered offset (of-found (suc zero) last span) is = let from : 3 ≤ p = span.0 in omega arith
+not_looked_at zero o p covered offset (of-found (suc (suc k)) last span) is = let inside : suc (suc k) < 2 = last.0.0 in omega arith
+not_looked_at zero o p covered offset (of-stop zero stop span) is = let above : o < 0 = stop.1 in omega arith
+not_looked_at zero o p covered offset (of-stop (suc zero) stop span) is =
     let above : o < 4 = stop.1 in
-    omega (arith, offset-four offset)
-not-looked-at zero o p covered offset (of-stop (suc (suc k)) stop span) is = let inside : suc (suc k) < 2 = stop.0 in omega arith
-not-looked-at (suc zero) o p covered offset looked is = absurd covered.1.le
-not-looked-at (suc (suc i)) o p covered offset looked is = let inside : suc (suc i) < 2 = covered.0 in omega arith
+    omega (arith, offset_four offset)
+not_looked_at zero o p covered offset (of-stop (suc (suc k)) stop span) is = let inside : suc (suc k) < 2 = stop.0 in omega arith
+not_looked_at (suc zero) o p covered offset looked is = absurd covered.1.le
+not_looked_at (suc (suc i)) o p covered offset looked is = let inside : suc (suc i) < 2 = covered.0 in omega arith
 
-in_area : (p : ℕ) → ¬ (p ≡ 2) → take 1 (drop p (areaOf sectionS)) ≡ take 1 (drop p (areaOf otherOffsetS))
-unfolding lookupOpened sectionS otherOffsetS
-in_area p other = elsewhere (areaOf sectionS) 2 p 0x20 other
+in_area : (p : ℕ) → ¬ (p ≡ 2) → take 1 (drop p (area_of section_s)) ≡ take 1 (drop p (area_of other_offset_s))
+unfolding lookup_opened section_s other_offset_s
+in_area p other = elsewhere (area_of section_s) 2 p 0x20 other
 
-pub other-offset-alike : LookAlike sectionS otherOffsetS d
-unfolding lookupOpened sectionS otherOffsetS
-other-offset-alike =
+pub other_offset_alike : LookAlike section_s other_offset_s d
+unfolding lookup_opened section_s other_offset_s
+other_offset_alike =
     record {
-      header = λ p said. elsewhere sectionS 70 p 0x20 (λ is. let below : p < 28 = said.1 in omega arith);
-      table = λ p said. elsewhere sectionS 70 p 0x20 (λ is. let below : p < 68 = said.1 in omega arith);
-      rows = λ i o covered offset p looked. in_area p (not-looked-at i o p covered offset looked);
+      header = λ p said. elsewhere section_s 70 p 0x20 (λ is. let below : p < 28 = said.1 in omega arith);
+      table = λ p said. elsewhere section_s 70 p 0x20 (λ is. let below : p < 68 = said.1 in omega arith);
+      rows = λ i o covered offset p looked. in_area p (not_looked_at i o p covered offset looked);
     }
 
 -- so a lookup in the second row is answered alike
-pub other-offset-same : lookupOf sectionS 0x400000 0x401004 ≡ lookupOf otherOffsetS 0x400000 0x401004
-other-offset-same = answer-agrees sectionS otherOffsetS accepted also 0x400000 0x401004 other-offset-alike
+pub other_offset_same : lookup_of section_s 0x400000 0x401004 ≡ lookup_of other_offset_s 0x400000 0x401004
+other_offset_same = answer_agrees section_s other_offset_s accepted also 0x400000 0x401004 other_offset_alike
 
 -- and one in the first row is not: CFA is SP + 8, and SP + 32
 told : Outcome → ℕ
@@ -113,6 +113,6 @@ told NoFunction = 0
 told (Dispute first second) = 0
 told (NoRow function) = 0
 
-pub other-offset-counts : ¬ (lookupOf sectionS 0x400000 0x401003 ≡ lookupOf otherOffsetS 0x400000 0x401003)
-unfolding lookupOpened sectionS otherOffsetS told
-other-offset-counts e = let both : ◌≡◌ {A = ℕ} 8 32 = ap (λ answer. told answer.outcome) e in omega arith
+pub other_offset_counts : ¬ (lookup_of section_s 0x400000 0x401003 ≡ lookup_of other_offset_s 0x400000 0x401003)
+unfolding lookup_opened section_s other_offset_s told
+other_offset_counts e = let both : ◌≡◌ {A = ℕ} 8 32 = ap (λ answer. told answer.outcome) e in omega arith

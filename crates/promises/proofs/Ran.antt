@@ -31,7 +31,7 @@ use Rattle.caller.specs.contracts.registers.Registers as registers-type
 use Rattle.caller.proofs.registers.Registers.TheLaws as registers-laws
 use Rattle.caller.specs.contracts.registers.Process as process-type
 use Rattle.caller.proofs.registers.Process.TheLaws as process-laws
-use Rattle.suntimpani.specs.Flat.{handedAs}
+use Rattle.suntimpani.specs.Flat.{handed_as}
 use Rattle.suntimpani.specs.declared.rows.RowsInC.{RowsInC}
 use Rattle.suntimpani.specs.declared.walks.TracedInC.{TracedInC}
 use Rattle.suntimpani.specs.contracts.flat.VerdictInC as verdict-type
@@ -50,17 +50,17 @@ use Rattle.suntimpani.proofs.suntimpani_lookup as exported-lookup
 use Rattle.suntimpani.proofs.suntimpani_ask as exported-ask
 use Rattle.suntimpani.proofs.suntimpani_caller as exported-caller
 use Rattle.suntimpani.proofs.suntimpani_trace as exported-trace
-use Rattle.promises.specs.AskCall.{exportedAsk}
+use Rattle.promises.specs.AskCall.{exported_ask}
 use Rattle.promises.specs.Exported.{exported}
-use Rattle.promises.specs.FunctionCall.{exportedFunction}
-use Rattle.promises.specs.RowsCall.{exportedRows}
+use Rattle.promises.specs.FunctionCall.{exported_function}
+use Rattle.promises.specs.RowsCall.{exported_rows}
 use Rattle.promises.specs.Returns.{Assertion, ◌∗◌, ◌has◌, StandsFor, HandedBack}
-use Rattle.promises.specs.Runs.{Runs, Bytes, whole, processValue, ProcessFits, registersValue, RegistersFit, rowsValue, RowsFit, Words, WithBuffer, BufferHas}
-use Rattle.promises.proofs.BufferLaws.{Buffer, words, words-kept, lends-words, can-be-stored, with-buffer, buffer-has}
-use Rattle.promises.proofs.ExportedKept.{exports-give}
+use Rattle.promises.specs.Runs.{Runs, Bytes, whole, process_value, ProcessFits, registers_value, RegistersFit, rows_value, RowsFit, Words, WithBuffer, BufferHas}
+use Rattle.promises.proofs.BufferLaws.{Buffer, words, words_kept, lends_words, can_be_stored, with_buffer, buffer_has}
+use Rattle.promises.proofs.ExportedKept.{exports_give}
 use Rattle.promises.proofs.ReturnLaws.{𝓤, H, 𝓜, A}
-use Rattle.promises.proofs.Returned.{exported-check-returns, exported-function_at-returns, exported-rows_of-returns, exported-next_row-returns, exported-lookup-returns, exported-ask-returns, exported-caller-returns, exported-trace-returns}
-use Rattle.promises.proofs.RunLaws.{W, hold, Ready, nothing_yet, and-value, and-lent, referred, Block, slice, slice_kept, lends-bytes, run_ends, runs}
+use Rattle.promises.proofs.Returned.{exported_check_returns, exported_function_at_returns, exported_rows_of_returns, exported_next_row_returns, exported_lookup_returns, exported_ask_returns, exported_caller_returns, exported_trace_returns}
+use Rattle.promises.proofs.RunLaws.{W, hold, Ready, nothing_yet, and_value, and_lent, referred, Block, slice, slice_kept, lends_bytes, run_ends, runs}
 
 -- ---- what is handed in
 
@@ -75,115 +75,115 @@ one_block : (s : List ℕ) → Bytes s → start_mem s [] has Block 0 s ∗ emp 
 one_block s bytes = start_Satisfies 𝓤 H 𝓜 s [] bytes.0 tt
 
 -- one more slice of a whole block
-and-slice : {σ : Memory} {held owned kept : Assertion} (F : Assertion) (j : ℕ) (s : List ℕ) (b : ℕ) → Bytes s
+and_slice : {σ : Memory} {held owned kept : Assertion} (F : Assertion) (j : ℕ) (s : List ℕ) (b : ℕ) → Bytes s
     → Ready σ held owned kept (Block b s ∗ F)
     → ∥ ((α : ℕ) × (γ : GName) × Ready σ (hold α ∗ held) (slice j s b α γ ∗ owned) (slice_kept j s b α γ ∗ kept) F) ∥₁
-and-slice F j s b bytes = and-lent (Block b s) (slice j s b) (slice_kept j s b) (lends-bytes j s b (omega arith, omega arith))
+and_slice F j s b bytes = and_lent (Block b s) (slice j s b) (slice_kept j s b) (lends_bytes j s b (omega arith, omega arith))
 
 -- a word, and the three structs, which are had for nothing
 word : (n : ℕ) → n < 2 ^ 64 → ent 𝓤 (emp 𝓤) (meaning 𝓤 H A (u64.own_val n (vint w64 n ∷ [])))
 word n fits = uint_Makes 𝓤 H A W w64 n (vint w64 n ∷ []) (refl, fits)
 
-the-process : (process : Process) → ProcessFits process → ent 𝓤 (emp 𝓤) (meaning 𝓤 H A ((process-type.the_row).own_val process (processValue process ∷ [])))
-the-process process fits = struct_laws.makes process-type.the_type process-laws.the_plain 𝓤 H A process (processValue process ∷ []) fits
+the_process : (process : Process) → ProcessFits process → ent 𝓤 (emp 𝓤) (meaning 𝓤 H A ((process-type.the_row).own_val process (process_value process ∷ [])))
+the_process process fits = struct_laws.makes process-type.the_type process-laws.the_plain 𝓤 H A process (process_value process ∷ []) fits
 
-the-registers : (registers : Registers) → RegistersFit registers
-    → ent 𝓤 (emp 𝓤) (meaning 𝓤 H A ((registers-type.the_row).own_val registers (registersValue registers ∷ [])))
-the-registers registers fit = struct_laws.makes registers-type.the_type registers-laws.the_plain 𝓤 H A registers (registersValue registers ∷ []) fit
+the_registers : (registers : Registers) → RegistersFit registers
+    → ent 𝓤 (emp 𝓤) (meaning 𝓤 H A ((registers-type.the_row).own_val registers (registers_value registers ∷ [])))
+the_registers registers fit = struct_laws.makes registers-type.the_type registers-laws.the_plain 𝓤 H A registers (registers_value registers ∷ []) fit
 
-the-rows : (rows : RowsInC) → RowsFit rows → ent 𝓤 (emp 𝓤) (meaning 𝓤 H A ((rows-type.the_row).own_val rows (rowsValue rows ∷ [])))
-the-rows rows fit = struct_laws.makes rows-type.the_type rows-laws.the_plain 𝓤 H A rows (rowsValue rows ∷ []) fit
+the_rows : (rows : RowsInC) → RowsFit rows → ent 𝓤 (emp 𝓤) (meaning 𝓤 H A ((rows-type.the_row).own_val rows (rows_value rows ∷ [])))
+the_rows rows fit = struct_laws.makes rows-type.the_type rows-laws.the_plain 𝓤 H A rows (rows_value rows ∷ []) fit
 
 -- ---- the runs
 
-pub exported-check-runs : (s : List ℕ) → Bytes s
+pub exported_check_runs : (s : List ℕ) → Bytes s
     → Runs exported-check.Symbol.routine (whole 0 s ∷ []) (start_mem s []) (λ value after. StandsFor verdict-type.the_row (exported.check s) value)
-exported-check-runs s bytes =
-    ∥∥₁_elim (and-slice (emp 𝓤) 0 s 0 bytes (nothing_yet (one_block s bytes))) ∥∥₁_prop λ lent.
+exported_check_runs s bytes =
+    ∥∥₁_elim (and_slice (emp 𝓤) 0 s 0 bytes (nothing_yet (one_block s bytes))) ∥∥₁_prop λ lent.
     let (α, γ, all) = lent in
     let κs : Lfts 1 = (α ∷ [], tt) in
     let a : Dens κs exported-check.Kinds.ps = (referred 0 s γ, tt) in
-    runs exported-check-returns κs tt (full_share, tt) a all (λ z w. (exports-give.check κs a z).0)
+    runs exported_check_returns κs tt (full_share, tt) a all (λ z w. (exports_give.check κs a z).0)
 
-pub exported-function_at-runs : (s : List ℕ) (index : ℕ) → Bytes s → index < 2 ^ 64
+pub exported_function_at_runs : (s : List ℕ) (index : ℕ) → Bytes s → index < 2 ^ 64
     → Runs exported-function_at.Symbol.routine (whole 0 s ∷ vint w64 index ∷ []) (start_mem s [])
-    (λ value after. StandsFor function-type.the_row (exportedFunction s index) value)
-unfolding exportedFunction
-exported-function_at-runs s index bytes index-fits =
-    ∥∥₁_elim (and-slice (emp 𝓤) 0 s 0 bytes (and-value (word index index-fits) (nothing_yet (one_block s bytes)))) ∥∥₁_prop λ lent.
+    (λ value after. StandsFor function-type.the_row (exported_function s index) value)
+unfolding exported_function
+exported_function_at_runs s index bytes index-fits =
+    ∥∥₁_elim (and_slice (emp 𝓤) 0 s 0 bytes (and_value (word index index-fits) (nothing_yet (one_block s bytes)))) ∥∥₁_prop λ lent.
     let (α, γ, all) = lent in
     let κs : Lfts 1 = (α ∷ [], tt) in
     let a : Dens κs exported-function_at.Kinds.ps = (referred 0 s γ, (index, tt)) in
-    runs exported-function_at-returns κs tt (full_share, tt) a all (λ z w allowed. allowed)
+    runs exported_function_at_returns κs tt (full_share, tt) a all (λ z w allowed. allowed)
 
-pub exported-rows_of-runs : (s : List ℕ) (index : ℕ) → Bytes s → index < 2 ^ 64
+pub exported_rows_of_runs : (s : List ℕ) (index : ℕ) → Bytes s → index < 2 ^ 64
     → Runs exported-rows_of.Symbol.routine (whole 0 s ∷ vint w64 index ∷ []) (start_mem s [])
-    (λ value after. StandsFor rows-type.the_row (exportedRows.begin s index) value)
-unfolding exportedRows
-exported-rows_of-runs s index bytes index-fits =
-    ∥∥₁_elim (and-slice (emp 𝓤) 0 s 0 bytes (and-value (word index index-fits) (nothing_yet (one_block s bytes)))) ∥∥₁_prop λ lent.
+    (λ value after. StandsFor rows-type.the_row (exported_rows.begin s index) value)
+unfolding exported_rows
+exported_rows_of_runs s index bytes index-fits =
+    ∥∥₁_elim (and_slice (emp 𝓤) 0 s 0 bytes (and_value (word index index-fits) (nothing_yet (one_block s bytes)))) ∥∥₁_prop λ lent.
     let (α, γ, all) = lent in
     let κs : Lfts 1 = (α ∷ [], tt) in
     let a : Dens κs exported-rows_of.Kinds.ps = (referred 0 s γ, (index, tt)) in
-    runs exported-rows_of-returns κs tt (full_share, tt) a all (λ z w allowed. allowed)
+    runs exported_rows_of_returns κs tt (full_share, tt) a all (λ z w allowed. allowed)
 
-pub exported-next_row-runs : (s : List ℕ) (rows : RowsInC) → Bytes s → RowsFit rows
-    → Runs exported-next_row.Symbol.routine (whole 0 s ∷ rowsValue rows ∷ []) (start_mem s [])
-    (λ value after. StandsFor row_type.the_row (exportedRows.next s rows) value)
-unfolding exportedRows
-exported-next_row-runs s rows bytes rows_fit =
-    ∥∥₁_elim (and-slice (emp 𝓤) 0 s 0 bytes (and-value (the-rows rows rows_fit) (nothing_yet (one_block s bytes)))) ∥∥₁_prop λ lent.
+pub exported_next_row_runs : (s : List ℕ) (rows : RowsInC) → Bytes s → RowsFit rows
+    → Runs exported-next_row.Symbol.routine (whole 0 s ∷ rows_value rows ∷ []) (start_mem s [])
+    (λ value after. StandsFor row_type.the_row (exported_rows.next s rows) value)
+unfolding exported_rows
+exported_next_row_runs s rows bytes rows_fit =
+    ∥∥₁_elim (and_slice (emp 𝓤) 0 s 0 bytes (and_value (the_rows rows rows_fit) (nothing_yet (one_block s bytes)))) ∥∥₁_prop λ lent.
     let (α, γ, all) = lent in
     let κs : Lfts 1 = (α ∷ [], tt) in
     let a : Dens κs exported-next_row.Kinds.ps = (referred 0 s γ, (rows, tt)) in
-    runs exported-next_row-returns κs tt (full_share, tt) a all (λ z w allowed. allowed)
+    runs exported_next_row_returns κs tt (full_share, tt) a all (λ z w allowed. allowed)
 
-pub exported-lookup-runs : (s : List ℕ) (address pc : ℕ) → Bytes s → address < 2 ^ 64 → pc < 2 ^ 64
+pub exported_lookup_runs : (s : List ℕ) (address pc : ℕ) → Bytes s → address < 2 ^ 64 → pc < 2 ^ 64
     → Runs exported-lookup.Symbol.routine (whole 0 s ∷ vint w64 address ∷ vint w64 pc ∷ []) (start_mem s [])
     (λ value after. StandsFor answer-type.the_row (exported.lookup s address pc) value)
-exported-lookup-runs s address pc bytes address-fits pc-fits =
+exported_lookup_runs s address pc bytes address-fits pc-fits =
     ∥∥₁_elim
-    (and-slice (emp 𝓤) 0 s 0 bytes (and-value (word address address-fits) (and-value (word pc pc-fits) (nothing_yet (one_block s bytes)))))
+    (and_slice (emp 𝓤) 0 s 0 bytes (and_value (word address address-fits) (and_value (word pc pc-fits) (nothing_yet (one_block s bytes)))))
     ∥∥₁_prop λ lent.
     let (α, γ, all) = lent in
     let κs : Lfts 1 = (α ∷ [], tt) in
     let a : Dens κs exported-lookup.Kinds.ps = (referred 0 s γ, (address, (pc, tt))) in
-    runs exported-lookup-returns κs tt (full_share, tt) a all (λ z w. (exports-give.lookup κs a z).0)
+    runs exported_lookup_returns κs tt (full_share, tt) a all (λ z w. (exports_give.lookup κs a z).0)
 
-pub exported-ask-runs : (s : List ℕ) (address pc : ℕ) → Bytes s → address < 2 ^ 64 → pc < 2 ^ 64
+pub exported_ask_runs : (s : List ℕ) (address pc : ℕ) → Bytes s → address < 2 ^ 64 → pc < 2 ^ 64
     → Runs exported-ask.Symbol.routine (whole 0 s ∷ vint w64 address ∷ vint w64 pc ∷ []) (start_mem s [])
-    (λ value after. StandsFor answer-type.the_row (exportedAsk s address pc) value)
-unfolding exportedAsk
-exported-ask-runs s address pc bytes address-fits pc-fits =
+    (λ value after. StandsFor answer-type.the_row (exported_ask s address pc) value)
+unfolding exported_ask
+exported_ask_runs s address pc bytes address-fits pc-fits =
     ∥∥₁_elim
-    (and-slice (emp 𝓤) 0 s 0 bytes (and-value (word address address-fits) (and-value (word pc pc-fits) (nothing_yet (one_block s bytes)))))
+    (and_slice (emp 𝓤) 0 s 0 bytes (and_value (word address address-fits) (and_value (word pc pc-fits) (nothing_yet (one_block s bytes)))))
     ∥∥₁_prop λ lent.
     let (α, γ, all) = lent in
     let κs : Lfts 1 = (α ∷ [], tt) in
     let a : Dens κs exported-ask.Kinds.ps = (referred 0 s γ, (address, (pc, tt))) in
-    runs exported-ask-returns κs tt (full_share, tt) a all (λ z w allowed. allowed)
+    runs exported_ask_returns κs tt (full_share, tt) a all (λ z w allowed. allowed)
 
-pub exported-caller-runs : (s stack : List ℕ) (process : Process) (registers : Registers) → Bytes s → Bytes stack → ProcessFits process → RegistersFit registers
-    → Runs exported-caller.Symbol.routine (whole 0 s ∷ whole 1 stack ∷ processValue process ∷ registersValue registers ∷ []) (start_mem s stack)
+pub exported_caller_runs : (s stack : List ℕ) (process : Process) (registers : Registers) → Bytes s → Bytes stack → ProcessFits process → RegistersFit registers
+    → Runs exported-caller.Symbol.routine (whole 0 s ∷ whole 1 stack ∷ process_value process ∷ registers_value registers ∷ []) (start_mem s stack)
     (λ value after. StandsFor step-type.the_row (exported.step s stack process registers) value)
-exported-caller-runs s stack process registers section-bytes stack-bytes process-fits registers-fit =
+exported_caller_runs s stack process registers section-bytes stack-bytes process-fits registers-fit =
     ∥∥₁_elim
-    (and-slice (Block 0 s ∗ emp 𝓤) 1 stack 1 stack-bytes
-    (and-value (the-process process process-fits) (and-value (the-registers registers registers-fit) (nothing_yet (two_blocks s stack section-bytes stack-bytes)))))
+    (and_slice (Block 0 s ∗ emp 𝓤) 1 stack 1 stack-bytes
+    (and_value (the_process process process-fits) (and_value (the_registers registers registers-fit) (nothing_yet (two_blocks s stack section-bytes stack-bytes)))))
     ∥∥₁_prop λ stack-lent.
     let (β, δ, second) = stack-lent in
-    ∥∥₁_elim (and-slice (emp 𝓤) 0 s 0 section-bytes second) ∥∥₁_prop λ lent.
+    ∥∥₁_elim (and_slice (emp 𝓤) 0 s 0 section-bytes second) ∥∥₁_prop λ lent.
     let (α, γ, all) = lent in
     let κs : Lfts 2 = (α ∷ [], (β ∷ [], tt)) in
     let a : Dens κs exported-caller.Kinds.ps = (referred 0 s γ, (referred 1 stack δ, (process, (registers, tt)))) in
-    runs exported-caller-returns κs tt (full_share, (full_share, tt)) a all (λ z w. (exports-give.step κs a z).0)
+    runs exported_caller_returns κs tt (full_share, (full_share, tt)) a all (λ z w. (exports_give.step κs a z).0)
 
 -- ---- the trace
 
 -- there is a memory with a buffer
-pub buffer-can-be-stored : (s stack old : List ℕ) → Bytes s → Bytes stack → Words old → ∥ ((σ : Memory) × WithBuffer s stack old σ) ∥₁
-buffer-can-be-stored s stack old section-bytes stack-bytes old-words =
-    can-be-stored s stack old old-words.0 (Block 1 stack ∗ Block 0 s ∗ emp 𝓤) (two_blocks s stack section-bytes stack-bytes)
+pub buffer_can_be_stored : (s stack old : List ℕ) → Bytes s → Bytes stack → Words old → ∥ ((σ : Memory) × WithBuffer s stack old σ) ∥₁
+buffer_can_be_stored s stack old section-bytes stack-bytes old-words =
+    can_be_stored s stack old old-words.0 (Block 1 stack ∗ Block 0 s ∗ emp 𝓤) (two_blocks s stack section-bytes stack-bytes)
 
 -- what a trace hands back, with what the buffer's lender kept, is the buffer
 module _ (κs : Lfts 3) (qs : Shares 3) (a : Dens κs exported-trace.Kinds.ps) (w : Lasts (ended_of 3 exported-trace.Kinds.ps exported-trace.Kinds.r) κs a) where
@@ -200,37 +200,37 @@ module _ (κs : Lfts 3) (qs : Shares 3) (a : Dens κs exported-trace.Kinds.ps) (
       move ! (3 ∷ []) $ split3 ! $ move ! (2 ∷ []) $ split ! $ keep ! (0 ∷ 4 ∷ 8 ∷ []) $ move ! (2 ∷ []) $ split3 ! $ move ! (2 ∷ []) $ split ! $
       keep ! (4 ∷ 5 ∷ 0 ∷ []) $ done !
 
-pub exported-trace-runs : (s stack : List ℕ) (process : Process) (registers : Registers) (limit : ℕ) (old : List ℕ) (σ : Memory)
+pub exported_trace_runs : (s stack : List ℕ) (process : Process) (registers : Registers) (limit : ℕ) (old : List ℕ) (σ : Memory)
     → Bytes s → Bytes stack → ProcessFits process → RegistersFit registers → limit < 2 ^ 64 → Words old → WithBuffer s stack old σ
     → Runs exported-trace.Symbol.routine
-    (whole 0 s ∷ whole 1 stack ∷ processValue process ∷ registersValue registers ∷ vint w64 limit ∷ whole 2 old ∷ []) σ
+    (whole 0 s ∷ whole 1 stack ∷ process_value process ∷ registers_value registers ∷ vint w64 limit ∷ whole 2 old ∷ []) σ
     (λ value after.
     StandsFor traced-type.the_row (exported.trace s stack process registers limit old).answer value
     × BufferHas after (length old) (exported.trace s stack process registers limit old).words)
-unfolding handedAs
-exported-trace-runs s stack process registers limit old σ section-bytes stack-bytes process-fits registers-fit limit-fits old-words is-stored =
+unfolding handed_as
+exported_trace_runs s stack process registers limit old σ section-bytes stack-bytes process-fits registers-fit limit-fits old-words is-stored =
     let blocks : Assertion = Block 1 stack ∗ Block 0 s ∗ emp 𝓤 in
     ∥∥₁_elim
-    (and-lent (Buffer (length old) old) (words 2 old) (words-kept 2 old) (lends-words 2 old (omega arith, omega arith))
-    (nothing_yet (with-buffer s stack old old-words.0 blocks (two_blocks s stack section-bytes stack-bytes) σ is-stored)))
+    (and_lent (Buffer (length old) old) (words 2 old) (words_kept 2 old) (lends_words 2 old (omega arith, omega arith))
+    (nothing_yet (with_buffer s stack old old-words.0 blocks (two_blocks s stack section-bytes stack-bytes) σ is-stored)))
     ∥∥₁_prop λ Buffer-Lent.
     let (μ, ν, third) = Buffer-Lent in
     ∥∥₁_elim
-    (and-slice (Block 0 s ∗ emp 𝓤) 1 stack 1 stack-bytes
-    (and-value (the-process process process-fits) (and-value (the-registers registers registers-fit) (and-value (word limit limit-fits) third))))
+    (and_slice (Block 0 s ∗ emp 𝓤) 1 stack 1 stack-bytes
+    (and_value (the_process process process-fits) (and_value (the_registers registers registers-fit) (and_value (word limit limit-fits) third))))
     ∥∥₁_prop λ stack-lent.
     let (β, δ, second) = stack-lent in
-    ∥∥₁_elim (and-slice (emp 𝓤) 0 s 0 section-bytes second) ∥∥₁_prop λ lent.
+    ∥∥₁_elim (and_slice (emp 𝓤) 0 s 0 section-bytes second) ∥∥₁_prop λ lent.
     let (α, γ, all) = lent in
     let κs : Lfts 3 = (α ∷ [], (β ∷ [], (μ ∷ [], tt))) in
     let qs : Shares 3 = (full_share, (full_share, (full_share, tt))) in
     let a : Dens κs exported-trace.Kinds.ps = (referred 0 s γ, (referred 1 stack δ, (process, (registers, (limit, (referred 2 old ν, tt)))))) in
-    ∥∥₁_elim (run_ends exported-trace-returns κs tt qs a all) ∥∥₁_prop λ end.
+    ∥∥₁_elim (run_ends exported_trace_returns κs tt qs a all) ∥∥₁_prop λ end.
     let left : List ℕ = end.last.1.1.1.1.1.0 in
-    let same = (exports-give.trace κs a end.reply left).0 end.allowed in
+    let same = (exports_give.trace κs a end.reply left).0 end.allowed in
     ∥∥₁_map
-    (buffer-has (length old) μ ν left end.after _
-    (gives_back κs qs a end.last end.reply end.value (slice_kept 0 s 0 α γ) (slice_kept 1 stack 1 β δ) (words-kept 2 old μ ν)) end.left)
+    (buffer_has (length old) μ ν left end.after _
+    (gives_back κs qs a end.last end.reply end.value (slice_kept 0 s 0 α γ) (slice_kept 1 stack 1 β δ) (words_kept 2 old μ ν)) end.left)
     λ loaded. (
       end.fuel,
       end.value,

@@ -21,7 +21,7 @@ use denote.Triple.Entry.{Args, Vals, Res, alive, on_entry}
 use denote.Triple.Spec.{Meets, triple_of}
 use Rattle.promises.specs.ByClauses.{Stated, closed, Plainly, EndsBy, ReturnsBy}
 use Rattle.promises.specs.Returns.{Assertion, ◌∗◌, ◌has◌}
-use Rattle.promises.proofs.ReturnLaws.{𝓤, H, 𝓜, 𝓡, A, is-told}
+use Rattle.promises.proofs.ReturnLaws.{𝓤, H, 𝓜, 𝓡, A, is_told}
 
 module _ (T : Ended) (stated : Stated T) (routine : Routine) (says : Plainly T stated) where
   abbrev pub MetBy : Type 1
@@ -76,7 +76,7 @@ module _ (T : Ended) (stated : Stated T) (routine : Routine) (says : Plainly T s
         let (z, s₂) = replied in
         let back : Assertion = Held ∗ Own v z in
         ∥∥₁_elim
-        (is-told σ' (Replied v z) F (Is (type_at T.signature.result κs) z (v ∷ []))
+        (is_told σ' (Replied v z) F (Is (type_at T.signature.result κs) z (v ∷ []))
         (via 𝓤 back (fst∗ 𝓤 back (Said z)) (via 𝓤 (Own v z) (snd∗ 𝓤 Held (Own v z)) (shows 𝓤 H A (type_at T.signature.result κs) z (v ∷ [])))) s₂)
         ∥∥₁_prop λ is.
         ∥∥₁_elim
@@ -85,7 +85,7 @@ module _ (T : Ended) (stated : Stated T) (routine : Routine) (says : Plainly T s
         ∥∥₁_prop λ said.
         let (w, s₃) = said in
         ∥∥₁_map
-        (is-told σ' (Last w ∗ Ensured z w) (back ∗ F) (says.Learnt κs a z (at_exit T κs a w))
+        (is_told σ' (Last w ∗ Ensured z w) (back ∗ F) (says.Learnt κs a z (at_exit T κs a w))
         (via 𝓤 (Ensured z w) (snd∗ 𝓤 (Last w) (Ensured z w)) (ensured-plainly z w)) s₃) λ allows.
         record {
           fuel = fuel;
@@ -94,13 +94,13 @@ module _ (T : Ended) (stated : Stated T) (routine : Routine) (says : Plainly T s
           ends = ended;
           reply = z;
           last = w;
-          stands-for = is;
+          stands_for = is;
           allowed = allows;
           left =
               sat_weaken 𝓤 H 𝓜 σ'
               (via 𝓤 (Last w ∗ back ∗ F) (mono_l 𝓤 (back ∗ F) (fst∗ 𝓤 (Last w) (Ensured z w))) (assoc' 𝓤 (Last w) back F)) s₃;
         }
 
-  pub met-returns-by : Unasked → MetBy → ReturnsBy T stated routine
-  met-returns-by none met =
+  pub met_returns_by : Unasked → MetBy → ReturnsBy T stated routine
+  met_returns_by none met =
       record { says = says; run = λ κs bounds qs a vss σ F s. met-ends-by none κs bounds qs a vss met σ F s }

@@ -48,8 +48,8 @@ abbrev pub A : Atoms 𝓤
 A = 𝓖.A
 
 -- a plain fact that something says which a memory has
-pub is-told : (σ : Memory) (P Q : Assertion) (φ : Type 0) → ent 𝓤 P (fact 𝓤 φ) → σ has P ∗ Q → ∥ φ ∥₁
-is-told σ P Q φ says s = sat_fact 𝓤 H 𝓜 σ (P ∗ Q) φ (via 𝓤 (P ∗ Q) (snd∗ 𝓤 (𝓜.mem σ) (P ∗ Q)) (via 𝓤 P (fst∗ 𝓤 P Q) says)) s
+pub is_told : (σ : Memory) (P Q : Assertion) (φ : Type 0) → ent 𝓤 P (fact 𝓤 φ) → σ has P ∗ Q → ∥ φ ∥₁
+is_told σ P Q φ says s = sat_fact 𝓤 H 𝓜 σ (P ∗ Q) φ (via 𝓤 (P ∗ Q) (snd∗ 𝓤 (𝓜.mem σ) (P ∗ Q)) (via 𝓤 P (fst∗ 𝓤 P Q) says)) s
 
 -- ---- a contract with no `requires`, and the run of a routine that meets it
 
@@ -94,7 +94,7 @@ module _ {n : ℕ} (ps : List (ParamKind n)) (r : ResultKind n) (Learnt : Out n 
         let (z, s₂) = replied in
         let back : Assertion = Held ∗ Own v z in
         ∥∥₁_elim
-        (is-told σ' (Replied v z) F (Is (res_t r κs) z (v ∷ []))
+        (is_told σ' (Replied v z) F (Is (res_t r κs) z (v ∷ []))
         (via 𝓤 back (fst∗ 𝓤 back (Said z)) (via 𝓤 (Own v z) (snd∗ 𝓤 Held (Own v z)) (shows 𝓤 H A (res_t r κs) z (v ∷ [])))) s₂)
         ∥∥₁_prop λ is.
         ∥∥₁_elim
@@ -102,7 +102,7 @@ module _ {n : ℕ} (ps : List (ParamKind n)) (r : ResultKind n) (Learnt : Out n 
         (sat_weaken 𝓤 H 𝓜 σ' (via 𝓤 ((Said z ∗ back) ∗ F) (mono_l 𝓤 F (comm∗ 𝓤 back (Said z))) (assoc∗ 𝓤 (Said z) back F)) s₂))
         ∥∥₁_prop λ said.
         let (w, s₃) = said in
-        ∥∥₁_map (is-told σ' (Last w ∗ Allowed z w) (back ∗ F) (Allows ps r Learnt κs a z w) (snd∗ 𝓤 (Last w) (Allowed z w)) s₃) λ allows.
+        ∥∥₁_map (is_told σ' (Last w ∗ Allowed z w) (back ∗ F) (Allows ps r Learnt κs a z w) (snd∗ 𝓤 (Last w) (Allowed z w)) s₃) λ allows.
         record {
           fuel = fuel;
           value = v;
@@ -110,13 +110,13 @@ module _ {n : ℕ} (ps : List (ParamKind n)) (r : ResultKind n) (Learnt : Out n 
           ends = ended;
           reply = z;
           last = w;
-          stands-for = is;
+          stands_for = is;
           allowed = allows;
           left =
               sat_weaken 𝓤 H 𝓜 σ'
               (via 𝓤 (Last w ∗ back ∗ F) (mono_l 𝓤 (back ∗ F) (fst∗ 𝓤 (Last w) (Allowed z w))) (assoc' 𝓤 (Last w) back F)) s₃;
         }
 
-pub met-returns : {n : ℕ} {ps : List (ParamKind n)} {r : ResultKind n} {Learnt : Out n ps r} {routine : Routine} → Met ps r Learnt routine → Returns ps r Learnt routine
-met-returns {ps = ps} {r = r} {Learnt = Learnt} {routine = routine} met =
+pub met_returns : {n : ℕ} {ps : List (ParamKind n)} {r : ResultKind n} {Learnt : Out n ps r} {routine : Routine} → Met ps r Learnt routine → Returns ps r Learnt routine
+met_returns {ps = ps} {r = r} {Learnt = Learnt} {routine = routine} met =
     record { run = λ κs bounds qs a σ F s. met-ends ps r Learnt routine κs bounds qs a met σ F s }

@@ -61,17 +61,17 @@ nothing_yet {σ} {F} s =
 
 module _ {σ : Memory} {held owned kept F : Assertion} where
   -- a plain value owns nothing but facts
-  pub and-value : {own : Assertion} → ent 𝓤 (emp 𝓤) own → Ready σ held owned kept F → Ready σ held (own ∗ owned) kept F
-  and-value {own} free s =
+  pub and_value : {own : Assertion} → ent 𝓤 (emp 𝓤) own → Ready σ held owned kept F → Ready σ held (own ∗ owned) kept F
+  and_value {own} free s =
       record {
         there =
             sat_weaken 𝓤 H 𝓜 σ
             (qed W (raw held ∷ raw owned ∷ raw kept ∷ raw F ∷ []) ∵ frame ! $ use0 W (raw own) free $ join ! $ done !) s.there;
       }
 
-  pub and-lent : (source : Assertion) (own keep : ℕ → GName → Assertion) → Lends source own keep → Ready σ held owned kept (source ∗ F)
+  pub and_lent : (source : Assertion) (own keep : ℕ → GName → Assertion) → Lends source own keep → Ready σ held owned kept (source ∗ F)
       → ∥ ((α : ℕ) × (γ : GName) × Ready σ (hold α ∗ held) (own α γ ∗ owned) (keep α γ ∗ kept) F) ∥₁
-  and-lent source own keep lends s =
+  and_lent source own keep lends s =
       let rest : Assertion = held ∗ owned ∗ kept ∗ F in
       let Lent-out : ℕ → GName → Assertion = λ α γ. hold α ∗ own α γ ∗ keep α γ in
       ∥∥₁_elim
@@ -114,8 +114,8 @@ module _ (j : ℕ) (xs : List ℕ) (b : ℕ) where
   abbrev pub slice_kept : ℕ → GName → Assertion
   slice_kept α γ = A.lent (α ∷ []) ((arr_parts (shares u8) (length xs)).part full_share xs b 0)
 
-  pub lends-bytes : Room u8 (length xs) → Lends (Block b xs) slice slice_kept
-  lends-bytes room =
+  pub lends_bytes : Room u8 (length xs) → Lends (Block b xs) slice slice_kept
+  lends_bytes room =
       qed W (raw (Block b xs) ∷ []) ∵ updating ! $ use1 W (‵ (parts (mem u8) (shares u8) full_share xs b 0)) (side_by_side xs b 0) $
       feq_i ! ℕ (length xs) (length xs) refl $ fjoin ! $ lft_new ! tt (λ α. move ! (1 ∷ []) $
       use1 W (later (some (λ (γ : GName). raw (slice α γ) ⊛ raw (slice_kept α γ))))

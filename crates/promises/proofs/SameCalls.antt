@@ -7,14 +7,14 @@ use Rattle.caller.specs.declared.registers.Registers.{Registers}
 use Rattle.caller.specs.declared.registers.Process.{Process}
 use Rattle.promises.specs.Calls.{CallsOf}
 
-pub same-calls : {Checks Looks Steps TraceCase : Type 0} (calls other : CallsOf Checks Looks Steps TraceCase)
+pub same_calls : {Checks Looks Steps TraceCase : Type 0} (calls other : CallsOf Checks Looks Steps TraceCase)
     → ((s : List ℕ) → calls.check s ≡ other.check s)
     → ((s : List ℕ) (address pc : ℕ) → calls.lookup s address pc ≡ other.lookup s address pc)
     → ((s stack : List ℕ) (process : Process) (registers : Registers) → calls.step s stack process registers ≡ other.step s stack process registers)
     → ((s stack : List ℕ) (process : Process) (registers : Registers) (limit : ℕ) (old : List ℕ)
     → calls.trace s stack process registers limit old ≡ other.trace s stack process registers limit old)
     → calls ≡ other
-same-calls calls other checks lookups steps traces i =
+same_calls calls other checks lookups steps traces i =
     record {
       check = fun_ext checks i;
       lookup = fun_ext (λ s. fun_ext λ address. fun_ext (lookups s address)) i;

@@ -11,68 +11,68 @@ use mathlib.Core.Logic.{∥∥₁_elim, ⊎_elim}
 use Prim.Native.Nat.{ℕ}
 use native.Mathlib.Omega.{arith}
 use lib.ListN.{length}
-use Rattle.numbers.specs.inner.Held.{natural}
-use Rattle.section.specs.Header.{marksOf, layout_of}
-use Rattle.section.specs.Meaning.{Function, functionIn, functionsOf}
-use Rattle.section.specs.SectionS.{sectionS}
+use Rattle.numbers.specs.Inner.Held.{natural}
+use Rattle.section.specs.Header.{marks_of, layout_of}
+use Rattle.section.specs.Meaning.{Function, function_in, functions_of}
+use Rattle.section.specs.SectionS.{section_s}
 use Rattle.section.specs.declared.row.Row.{Row}
-use Rattle.accept.specs.Rules.{rowInfoAt}
-use Rattle.accept.specs.computed.Checks.{verdict}
+use Rattle.accept.specs.Rules.{row_info_at}
+use Rattle.accept.specs.Computed.Checks.{verdict}
 use Rattle.accept.specs.declared.verdict.Verdict.TheVariants.{Accepted}
-use Rattle.lookup.specs.inner.Opened.{lookupOpened}
+use Rattle.lookup.specs.Inner.Opened.{lookup_opened}
 use Rattle.promises.specs.Demand3.{Alike}
-use Rattle.promises.specs.Listings.{plainFunction, repeatedFunction, shiftedFunction, sortedListing, otherListing, changedListing, shuffledS, zeroRowless, zeroWithRow, sizedEntry, zeroListing, zerosListed, zerosExchanged, uncounted}
+use Rattle.promises.specs.Listings.{plain_function, repeated_function, shifted_function, sorted_listing, other_listing, changed_listing, shuffled_s, zero_rowless, zero_with_row, sized_entry, zero_listing, zeros_listed, zeros_exchanged, uncounted}
 use Rattle.promises.specs.SameFunctions.{SameFunctions}
-use Rattle.promises.specs.computed.Ours.{ours}
-use Rattle.promises.specs.inner.Deciding.{Function-discrete}
-use Rattle.promises.proofs.OrderLaws.{same-reordered}
+use Rattle.promises.specs.Computed.Ours.{ours}
+use Rattle.promises.specs.Inner.Deciding.{Function-discrete}
+use Rattle.promises.proofs.OrderLaws.{same_reordered}
 
 -- ---- all three are accepted
 
-pub sorted-accepted : verdict sortedListing ≡ Accepted
-unfolding lookupOpened sortedListing
-sorted-accepted = refl
+pub sorted_accepted : verdict sorted_listing ≡ Accepted
+unfolding lookup_opened sorted_listing
+sorted_accepted = refl
 
-pub other-accepted : verdict otherListing ≡ Accepted
-unfolding lookupOpened otherListing
-other-accepted = refl
+pub other_accepted : verdict other_listing ≡ Accepted
+unfolding lookup_opened other_listing
+other_accepted = refl
 
-pub changed-accepted : verdict changedListing ≡ Accepted
-unfolding lookupOpened otherListing changedListing
-changed-accepted = refl
+pub changed_accepted : verdict changed_listing ≡ Accepted
+unfolding lookup_opened other_listing changed_listing
+changed_accepted = refl
 
 -- ---- what they list
 
-pub sorted-lists : functionsOf sortedListing ≡ plainFunction ∷ repeatedFunction ∷ []
-unfolding lookupOpened sortedListing plainFunction repeatedFunction
-sorted-lists = refl
+pub sorted_lists : functions_of sorted_listing ≡ plain_function ∷ repeated_function ∷ []
+unfolding lookup_opened sorted_listing plain_function repeated_function
+sorted_lists = refl
 
-pub other-lists : functionsOf otherListing ≡ repeatedFunction ∷ plainFunction ∷ []
-unfolding lookupOpened otherListing plainFunction repeatedFunction
-other-lists = refl
+pub other_lists : functions_of other_listing ≡ repeated_function ∷ plain_function ∷ []
+unfolding lookup_opened other_listing plain_function repeated_function
+other_lists = refl
 
-pub changed-lists : functionsOf changedListing ≡ shiftedFunction ∷ plainFunction ∷ []
-unfolding lookupOpened otherListing changedListing plainFunction shiftedFunction
-changed-lists = refl
+pub changed_lists : functions_of changed_listing ≡ shifted_function ∷ plain_function ∷ []
+unfolding lookup_opened other_listing changed_listing plain_function shifted_function
+changed_lists = refl
 
-pub functions-differ : ¬ (plainFunction ≡ repeatedFunction)
-unfolding plainFunction repeatedFunction
-functions-differ e = let size : ◌≡◌ {A = ℕ} 0x20 0x100 = ap (λ f. f.size) e in omega arith
+pub functions_differ : ¬ (plain_function ≡ repeated_function)
+unfolding plain_function repeated_function
+functions_differ e = let size : ◌≡◌ {A = ℕ} 0x20 0x100 = ap (λ f. f.size) e in omega arith
 
 -- CFA's offset in the first row
-firstOffset : List Row → ℕ
-firstOffset [] = 0
-firstOffset (row ∷ rows) = natural row.cfa.by
+first_offset : List Row → ℕ
+first_offset [] = 0
+first_offset (row ∷ rows) = natural row.cfa.by
 
-shifted-differs : ¬ (repeatedFunction ≡ shiftedFunction)
-unfolding repeatedFunction shiftedFunction firstOffset natural
-shifted-differs e = let offset : ◌≡◌ {A = ℕ} 16 24 = ap (λ f. firstOffset f.rows) e in omega arith
+shifted_differs : ¬ (repeated_function ≡ shifted_function)
+unfolding repeated_function shifted_function first_offset natural
+shifted_differs e = let offset : ◌≡◌ {A = ℕ} 16 24 = ap (λ f. first_offset f.rows) e in omega arith
 
 -- ---- whether they list the same functions
 
 -- the first two functions in the other order
-exchanged : {s t : List ℕ} (f g : Function) (more : List Function) → (marksOf s).abi ≡ (marksOf t).abi → functionsOf s ≡ f ∷ g ∷ more
-    → functionsOf t ≡ g ∷ f ∷ more
+exchanged : {s t : List ℕ} (f g : Function) (more : List Function) → (marks_of s).abi ≡ (marks_of t).abi → functions_of s ≡ f ∷ g ∷ more
+    → functions_of t ≡ g ∷ f ∷ more
     → SameFunctions s t
 exchanged f g more machine lists lists' =
     record {
@@ -83,110 +83,110 @@ exchanged f g more machine lists lists' =
           ∙ sym (ap (count Function-discrete h) lists');
     }
 
-pub listings-same : SameFunctions sortedListing otherListing
-unfolding lookupOpened sortedListing otherListing
-listings-same = exchanged plainFunction repeatedFunction [] refl sorted-lists other-lists
+pub listings_same : SameFunctions sorted_listing other_listing
+unfolding lookup_opened sorted_listing other_listing
+listings_same = exchanged plain_function repeated_function [] refl sorted_lists other_lists
 
 -- the repeated function is none of the two that the changed section lists
-pub listings-differ : ¬ SameFunctions otherListing changedListing
-listings-differ same =
-    ∥∥₁_elim ((Perm.mem_iff (rw (other-lists, changed-lists) at (same-reordered same))).0 mem-cons_self) ⊥_prop λ place.
-    ⊎_elim shifted-differs (λ later. functions-differ (sym (Memᴰ.eq_of_singleton later))) (Memᴰ.cases_cons place)
+pub listings_differ : ¬ SameFunctions other_listing changed_listing
+listings_differ same =
+    ∥∥₁_elim ((Perm.mem_iff (rw (other_lists, changed_lists) at (same_reordered same))).0 mem-cons_self) ⊥_prop λ place.
+    ⊎_elim shifted_differs (λ later. functions_differ (sym (Memᴰ.eq_of_singleton later))) (Memᴰ.cases_cons place)
 
-pub sorted-differs : ¬ SameFunctions sortedListing changedListing
-sorted-differs same =
-    listings-differ
+pub sorted_differs : ¬ SameFunctions sorted_listing changed_listing
+sorted_differs same =
+    listings_differ
     (record {
-      machine = sym listings-same.machine ∙ same.machine;
-      often = λ f. sym (listings-same.often f) ∙ same.often f;
+      machine = sym listings_same.machine ∙ same.machine;
+      often = λ f. sym (listings_same.often f) ∙ same.often f;
     })
 
 -- ---- the two that list the same differ in what doesn't count
 
 -- sorted or not, starts relative to their own fields or not, and an auxiliary header or none
-pub headers-differ :
-    ((layout_of sortedListing).sorted ≡ true)
-    × ((layout_of otherListing).sorted ≡ false)
-    × ((layout_of sortedListing).relative ≡ false)
-    × ((layout_of otherListing).relative ≡ true)
-    × ((marksOf sortedListing).auxiliary ≡ 0)
-    × ((marksOf otherListing).auxiliary ≡ 3)
-unfolding lookupOpened sortedListing otherListing
-headers-differ = (refl, refl, refl, refl, refl, refl)
+pub headers_differ :
+    ((layout_of sorted_listing).sorted ≡ true)
+    × ((layout_of other_listing).sorted ≡ false)
+    × ((layout_of sorted_listing).relative ≡ false)
+    × ((layout_of other_listing).relative ≡ true)
+    × ((marks_of sorted_listing).auxiliary ≡ 0)
+    × ((marks_of other_listing).auxiliary ≡ 3)
+unfolding lookup_opened sorted_listing other_listing
+headers_differ = (refl, refl, refl, refl, refl, refl)
 
 -- the plain function is entry 0 of the one and entry 1 of the other
-pub plain-entries-differ :
-    (uncounted sortedListing 0 ≡ record { type = 0; size = 0; key = false; padding = 0; first = 0; repeat = 0 })
-    × (uncounted otherListing 1 ≡ record { type = 1; size = 1; key = true; padding = 0xcafe; first = 16; repeat = 7 })
-unfolding lookupOpened rowInfoAt sortedListing otherListing uncounted
-plain-entries-differ = (refl, refl)
+pub plain_entries_differ :
+    (uncounted sorted_listing 0 ≡ record { type = 0; size = 0; key = false; padding = 0; first = 0; repeat = 0 })
+    × (uncounted other_listing 1 ≡ record { type = 1; size = 1; key = true; padding = 0xcafe; first = 16; repeat = 7 })
+unfolding lookup_opened row_info_at sorted_listing other_listing uncounted
+plain_entries_differ = (refl, refl)
 
 -- the repeated function is entry 1 of the one and entry 0 of the other; its repeat size counts
-pub repeated-entries-differ :
-    (uncounted sortedListing 1 ≡ record { type = 0; size = 0; key = false; padding = 0; first = 8; repeat = 16 })
-    × (uncounted otherListing 0 ≡ record { type = 2; size = 2; key = true; padding = 0xbeef; first = 2; repeat = 16 })
-unfolding lookupOpened rowInfoAt sortedListing otherListing uncounted
-repeated-entries-differ = (refl, refl)
+pub repeated_entries_differ :
+    (uncounted sorted_listing 1 ≡ record { type = 0; size = 0; key = false; padding = 0; first = 8; repeat = 16 })
+    × (uncounted other_listing 0 ≡ record { type = 2; size = 2; key = true; padding = 0xbeef; first = 2; repeat = 16 })
+unfolding lookup_opened row_info_at sorted_listing other_listing uncounted
+repeated_entries_differ = (refl, refl)
 
 -- ---- section S
 
-s-accepted : verdict sectionS ≡ Accepted
-unfolding lookupOpened sectionS
-s-accepted = refl
+s_accepted : verdict section_s ≡ Accepted
+unfolding lookup_opened section_s
+s_accepted = refl
 
-pub shuffled-accepted : verdict shuffledS ≡ Accepted
-unfolding lookupOpened shuffledS
-shuffled-accepted = refl
+pub shuffled_accepted : verdict shuffled_s ≡ Accepted
+unfolding lookup_opened shuffled_s
+shuffled_accepted = refl
 
-s-lists : functionsOf sectionS ≡ functionIn sectionS 0 ∷ functionIn sectionS 1 ∷ []
-unfolding lookupOpened sectionS
-s-lists = refl
+s_lists : functions_of section_s ≡ function_in section_s 0 ∷ function_in section_s 1 ∷ []
+unfolding lookup_opened section_s
+s_lists = refl
 
-shuffled-lists : functionsOf shuffledS ≡ functionIn sectionS 1 ∷ functionIn sectionS 0 ∷ []
-unfolding lookupOpened sectionS shuffledS
-shuffled-lists = refl
+shuffled_lists : functions_of shuffled_s ≡ function_in section_s 1 ∷ function_in section_s 0 ∷ []
+unfolding lookup_opened section_s shuffled_s
+shuffled_lists = refl
 
-pub shuffled-same : SameFunctions sectionS shuffledS
-unfolding lookupOpened sectionS shuffledS
-shuffled-same = exchanged (functionIn sectionS 0) (functionIn sectionS 1) [] refl s-lists shuffled-lists
+pub shuffled_same : SameFunctions section_s shuffled_s
+unfolding lookup_opened section_s shuffled_s
+shuffled_same = exchanged (function_in section_s 0) (function_in section_s 1) [] refl s_lists shuffled_lists
 
 -- ---- two sorted sections that list the same functions in different orders
 
-pub zeros-accepted : (verdict zerosListed ≡ Accepted) × (verdict zerosExchanged ≡ Accepted)
-unfolding lookupOpened zeroRowless zeroWithRow sizedEntry zeroListing zerosListed zerosExchanged
-zeros-accepted = (refl, refl)
+pub zeros_accepted : (verdict zeros_listed ≡ Accepted) × (verdict zeros_exchanged ≡ Accepted)
+unfolding lookup_opened zero_rowless zero_with_row sized_entry zero_listing zeros_listed zeros_exchanged
+zeros_accepted = (refl, refl)
 
-pub zeros-sorted : ((layout_of zerosListed).sorted ≡ true) × ((layout_of zerosExchanged).sorted ≡ true)
-unfolding lookupOpened zeroRowless zeroWithRow sizedEntry zeroListing zerosListed zerosExchanged
-zeros-sorted = (refl, refl)
+pub zeros_sorted : ((layout_of zeros_listed).sorted ≡ true) × ((layout_of zeros_exchanged).sorted ≡ true)
+unfolding lookup_opened zero_rowless zero_with_row sized_entry zero_listing zeros_listed zeros_exchanged
+zeros_sorted = (refl, refl)
 
 -- the first function of the one is not the first of the other
-pub zeros-order-differs : ¬ (functionIn zerosListed 0 ≡ functionIn zerosExchanged 0)
-unfolding lookupOpened zeroRowless zeroWithRow sizedEntry zeroListing zerosListed zerosExchanged
-zeros-order-differs e = let rows : ◌≡◌ {A = ℕ} 0 1 = ap (λ f. length f.rows) e in omega arith
+pub zeros_order_differs : ¬ (function_in zeros_listed 0 ≡ function_in zeros_exchanged 0)
+unfolding lookup_opened zero_rowless zero_with_row sized_entry zero_listing zeros_listed zeros_exchanged
+zeros_order_differs e = let rows : ◌≡◌ {A = ℕ} 0 1 = ap (λ f. length f.rows) e in omega arith
 
-listed-zeros : functionsOf zerosListed ≡ functionIn zerosListed 0 ∷ functionIn zerosListed 1 ∷ functionIn zerosListed 2 ∷ []
-unfolding lookupOpened zeroRowless zeroWithRow sizedEntry zeroListing zerosListed
-listed-zeros = refl
+listed_zeros : functions_of zeros_listed ≡ function_in zeros_listed 0 ∷ function_in zeros_listed 1 ∷ function_in zeros_listed 2 ∷ []
+unfolding lookup_opened zero_rowless zero_with_row sized_entry zero_listing zeros_listed
+listed_zeros = refl
 
-exchanged-zeros : functionsOf zerosExchanged ≡ functionIn zerosListed 1 ∷ functionIn zerosListed 0 ∷ functionIn zerosListed 2 ∷ []
-unfolding lookupOpened zeroRowless zeroWithRow sizedEntry zeroListing zerosListed zerosExchanged
-exchanged-zeros = refl
+exchanged_zeros : functions_of zeros_exchanged ≡ function_in zeros_listed 1 ∷ function_in zeros_listed 0 ∷ function_in zeros_listed 2 ∷ []
+unfolding lookup_opened zero_rowless zero_with_row sized_entry zero_listing zeros_listed zeros_exchanged
+exchanged_zeros = refl
 
-pub zeros-same : SameFunctions zerosListed zerosExchanged
-unfolding lookupOpened zeroRowless zeroWithRow sizedEntry zeroListing zerosListed zerosExchanged
-zeros-same = exchanged (functionIn zerosListed 0) (functionIn zerosListed 1) (functionIn zerosListed 2 ∷ []) refl listed-zeros exchanged-zeros
+pub zeros_same : SameFunctions zeros_listed zeros_exchanged
+unfolding lookup_opened zero_rowless zero_with_row sized_entry zero_listing zeros_listed zeros_exchanged
+zeros_same = exchanged (function_in zeros_listed 0) (function_in zeros_listed 1) (function_in zeros_listed 2 ∷ []) refl listed_zeros exchanged_zeros
 
 -- ---- so there are sections of which demand 3 speaks: one sorted and one not, on each machine, and two sorted ones in different orders
 
-pub listings-alike : Alike ours sortedListing otherListing
+pub listings_alike : Alike ours sorted_listing other_listing
 unfolding ours
-listings-alike = record { accepted = sorted-accepted; also = other-accepted; same = listings-same }
+listings_alike = record { accepted = sorted_accepted; also = other_accepted; same = listings_same }
 
-pub shuffled-alike : Alike ours sectionS shuffledS
+pub shuffled_alike : Alike ours section_s shuffled_s
 unfolding ours
-shuffled-alike = record { accepted = s-accepted; also = shuffled-accepted; same = shuffled-same }
+shuffled_alike = record { accepted = s_accepted; also = shuffled_accepted; same = shuffled_same }
 
-pub zeros-alike : Alike ours zerosListed zerosExchanged
+pub zeros_alike : Alike ours zeros_listed zeros_exchanged
 unfolding ours
-zeros-alike = record { accepted = zeros-accepted.0; also = zeros-accepted.1; same = zeros-same }
+zeros_alike = record { accepted = zeros_accepted.0; also = zeros_accepted.1; same = zeros_same }

@@ -42,59 +42,59 @@ use Rattle.section.proofs.shape.shape_of.Kinds as shape_of-kinds
 use Rattle.section.proofs.shape.shape_of.Reads as shape_of-reads
 use Rattle.promises.specs.Determined.{Determined}
 
-pub entry_at-determined : Determined entry_at-kinds.ps entry_at-kinds.r entry_at-reads.Learnt
-entry_at-determined κs a z z' w w' p q = (p ∙ sym q, refl)
+pub entry_at_determined : Determined entry_at-kinds.ps entry_at-kinds.r entry_at-reads.Learnt
+entry_at_determined κs a z z' w w' p q = (p ∙ sym q, refl)
 
-pub type_of-determined : Determined type_of-kinds.ps type_of-kinds.r type_of-reads.Learnt
-type_of-determined κs a z z' w w' p q = (p ∙ sym q, refl)
+pub type_of_determined : Determined type_of-kinds.ps type_of-kinds.r type_of-reads.Learnt
+type_of_determined κs a z z' w w' p q = (p ∙ sym q, refl)
 
-pub does_repeat-determined : Determined does_repeat-kinds.ps does_repeat-kinds.r does_repeat-reads.Learnt
-does_repeat-determined κs a z z' w w' p q = (p ∙ sym q, refl)
+pub does_repeat_determined : Determined does_repeat-kinds.ps does_repeat-kinds.r does_repeat-reads.Learnt
+does_repeat_determined κs a z z' w w' p q = (p ∙ sym q, refl)
 
-pub start_of-determined : Determined start_of-kinds.ps start_of-kinds.r start_of-reads.Learnt
-start_of-determined κs a z z' w w' p q = (p.0 ∙ sym q.0, refl)
+pub start_of_determined : Determined start_of-kinds.ps start_of-kinds.r start_of-reads.Learnt
+start_of_determined κs a z z' w w' p q = (p.0 ∙ sym q.0, refl)
 
-pub bit_of-determined : Determined bit_of-kinds.ps bit_of-kinds.r bit_of-reads.Learnt
-bit_of-determined κs a z z' w w' p q = (p ∙ sym q, refl)
+pub bit_of_determined : Determined bit_of-kinds.ps bit_of-kinds.r bit_of-reads.Learnt
+bit_of_determined κs a z z' w w' p q = (p ∙ sym q, refl)
 
-pub magic_in-determined : Determined magic_in-kinds.ps magic_in-kinds.r magic_in-reads.Learnt
-magic_in-determined κs a z z' w w' p q = (p ∙ sym q, refl)
+pub magic_in_determined : Determined magic_in-kinds.ps magic_in-kinds.r magic_in-reads.Learnt
+magic_in_determined κs a z z' w w' p q = (p ∙ sym q, refl)
 
-pub order_at-determined : Determined order_at-kinds.ps order_at-kinds.r order_at-reads.Learnt
-order_at-determined κs a z z' w w' p q = (p ∙ sym q, refl)
+pub order_at_determined : Determined order_at-kinds.ps order_at-kinds.r order_at-reads.Learnt
+order_at_determined κs a z z' w w' p q = (p ∙ sym q, refl)
 
-pub marks_at-determined : Determined marks_at-kinds.ps marks_at-kinds.r marks_at-reads.Learnt
-marks_at-determined κs a z z' w w' p q = (p ∙ sym q, refl)
+pub marks_at_determined : Determined marks_at-kinds.ps marks_at-kinds.r marks_at-reads.Learnt
+marks_at_determined κs a z z' w w' p q = (p ∙ sym q, refl)
 
-pub sizes_at-determined : Determined sizes_at-kinds.ps sizes_at-kinds.r sizes_at-reads.Learnt
-sizes_at-determined κs a z z' w w' p q = (p ∙ sym q, refl)
+pub sizes_at_determined : Determined sizes_at-kinds.ps sizes_at-kinds.r sizes_at-reads.Learnt
+sizes_at_determined κs a z z' w w' p q = (p ∙ sym q, refl)
 
-pub layout_at-determined : Determined layout_at-kinds.ps layout_at-kinds.r layout_at-reads.Learnt
-layout_at-determined κs a z z' w w' p q = (p ∙ sym q, refl)
+pub layout_at_determined : Determined layout_at-kinds.ps layout_at-kinds.r layout_at-reads.Learnt
+layout_at_determined κs a z z' w w' p q = (p ∙ sym q, refl)
 
-pub row_start_at-determined : Determined row_start_at-kinds.ps row_start_at-kinds.r row_start_at-reads.Learnt
-row_start_at-determined κs a z z' w w' p q = (p ∙ sym q, refl)
+pub row_start_at_determined : Determined row_start_at-kinds.ps row_start_at-kinds.r row_start_at-reads.Learnt
+row_start_at_determined κs a z z' w w' p q = (p ∙ sym q, refl)
 
-pub info_at-determined : Determined info_at-kinds.ps info_at-kinds.r info_at-reads.Learnt
-info_at-determined κs a z z' w w' p q = (p ∙ sym q, refl)
+pub info_at_determined : Determined info_at-kinds.ps info_at-kinds.r info_at-reads.Learnt
+info_at_determined κs a z z' w w' p q = (p ∙ sym q, refl)
 
-pub count_of-determined : Determined count_of-kinds.ps count_of-kinds.r count_of-reads.Learnt
-count_of-determined κs a z z' w w' p q = (p ∙ sym q, refl)
+pub count_of_determined : Determined count_of-kinds.ps count_of-kinds.r count_of-reads.Learnt
+count_of_determined κs a z z' w w' p q = (p ∙ sym q, refl)
 
-pub offset_size_of-determined : Determined offset_size_of-kinds.ps offset_size_of-kinds.r offset_size_of-reads.Learnt
-offset_size_of-determined κs a z z' w w' p q = (p ∙ sym q, refl)
+pub offset_size_of_determined : Determined offset_size_of-kinds.ps offset_size_of-kinds.r offset_size_of-reads.Learnt
+offset_size_of_determined κs a z z' w w' p q = (p ∙ sym q, refl)
 
-pub row_length-determined : Determined row_length-kinds.ps row_length-kinds.r row_length-reads.Learnt
-row_length-determined κs a z z' w w' p q = (p ∙ sym q, refl)
+pub row_length_determined : Determined row_length-kinds.ps row_length-kinds.r row_length-reads.Learnt
+row_length_determined κs a z z' w w' p q = (p ∙ sym q, refl)
 
-pub row_at-determined : Determined row_at-kinds.ps row_at-kinds.r row_at-reads.Learnt
-row_at-determined κs a z z' w w' p q = (p ∙ sym q, refl)
+pub row_at_determined : Determined row_at-kinds.ps row_at-kinds.r row_at-reads.Learnt
+row_at_determined κs a z z' w w' p q = (p ∙ sym q, refl)
 
-pub abi_of-determined : Determined abi_of-kinds.ps abi_of-kinds.r abi_of-reads.Learnt
-abi_of-determined κs a z z' w w' p q = (p ∙ sym q, refl)
+pub abi_of_determined : Determined abi_of-kinds.ps abi_of-kinds.r abi_of-reads.Learnt
+abi_of_determined κs a z z' w w' p q = (p ∙ sym q, refl)
 
-pub shape_of-determined : Determined shape_of-kinds.ps shape_of-kinds.r shape_of-reads.Learnt
-shape_of-determined κs a z z' w w' p q = (p ∙ sym q, refl)
+pub shape_of_determined : Determined shape_of-kinds.ps shape_of-kinds.r shape_of-reads.Learnt
+shape_of_determined κs a z z' w w' p q = (p ∙ sym q, refl)
 
-pub exact_start-determined : Determined exact_start-kinds.ps exact_start-kinds.r exact_start-reads.Learnt
-exact_start-determined κs a z z' w w' p q = (ap (λ (by : ℤ). record { by = by }) (p ∙ sym q), refl)
+pub exact_start_determined : Determined exact_start-kinds.ps exact_start-kinds.r exact_start-reads.Learnt
+exact_start_determined κs a z z' w w' p q = (ap (λ (by : ℤ). record { by = by }) (p ∙ sym q), refl)

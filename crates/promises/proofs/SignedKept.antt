@@ -13,32 +13,32 @@ use Rattle.caller.specs.Cases.{CallerCase}
 use Rattle.caller.specs.Signature.{Signed, mask_of, Cleared, OnlySignature}
 use Rattle.caller.specs.declared.registers.Process.{Process}
 use Rattle.caller.specs.declared.registers.Registers.{Registers}
-use Rattle.caller.proofs.Exactly.{caller-exactly-when, number-24-exactly-when}
-use Rattle.caller.proofs.Signed.{mask-unseen, amd64-unseen, pc-as-read, pc-of-signed, pc-of-unsigned, zero-exactly-when}
-use Rattle.caller.proofs.StepLaws.{by-shown}
-use Rattle.caller.proofs.TestLaws.{signed-shows}
+use Rattle.caller.proofs.Exactly.{caller_exactly_when, number_24_exactly_when}
+use Rattle.caller.proofs.Signed.{mask_unseen, amd64_unseen, pc_as_read, pc_of_signed, pc_of_unsigned, zero_exactly_when}
+use Rattle.caller.proofs.StepLaws.{by_shown}
+use Rattle.caller.proofs.TestLaws.{signed_shows}
 use Rattle.trace.specs.Cases.{DoorOpen, Follows}
-use Rattle.trace.specs.Frames.{inForce, withMark}
-use Rattle.trace.specs.computed.Trace.{traceOf}
+use Rattle.trace.specs.Frames.{in_force, with_mark}
+use Rattle.trace.specs.Computed.Trace.{trace_of}
 use Rattle.trace.specs.declared.answer.Ending.TheVariants.{Outermost}
 use Rattle.trace.specs.declared.answer.Frame.{Frame}
-use Rattle.trace.proofs.Exactly.{case-answers}
-use Rattle.trace.proofs.Signed.{mask-not-seen, amd64-not-seen}
-use Rattle.promises.specs.Demand2.{leftBy}
-use Rattle.promises.specs.Exported.{FlatCalls, FlatKeeps, readCalls}
+use Rattle.trace.proofs.Exactly.{case_answers}
+use Rattle.trace.proofs.Signed.{mask_not_seen, amd64_not_seen}
+use Rattle.promises.specs.Demand2.{left_by}
+use Rattle.promises.specs.Exported.{FlatCalls, FlatKeeps, read_calls}
 use Rattle.promises.specs.SignedAddresses.{StepClears, TraceClears, ClearsSigned, SignedPromised}
-use Rattle.promises.specs.computed.Ours.{ours}
+use Rattle.promises.specs.Computed.Ours.{ours}
 use Rattle.promises.proofs.ExportedKept.{read_keeps}
-use Rattle.promises.proofs.Kept.{kept-are-ours}
+use Rattle.promises.proofs.Kept.{kept_are_ours}
 
 module _ (s stack : List ℕ) (process : Process) (registers : Registers) where
   clears-case : (caller : Registers) (case : CallerCase s stack process registers caller)
       → (Signed (shape_of s) case.row × Cleared process.mask case.ra caller.pc)
       ⊎ ((¬ Signed (shape_of s) case.row) × (caller.pc ≡ case.ra))
   clears-case caller case =
-      by-shown (signed-shows (shape_of s) case.row)
-      (λ signed. inl (signed, pc-of-signed s stack process registers caller case signed))
-      (λ unsigned. inr (unsigned, pc-of-unsigned s stack process registers caller case unsigned))
+      by_shown (signed_shows (shape_of s) case.row)
+      (λ signed. inl (signed, pc_of_signed s stack process registers caller case signed))
+      (λ unsigned. inr (unsigned, pc_of_unsigned s stack process registers caller case unsigned))
 
   step-clears : StepClears ours s stack process registers
   unfolding ours
@@ -46,30 +46,30 @@ module _ (s stack : List ℕ) (process : Process) (registers : Registers) where
       record {
         clears =
             λ caller is.
-            let case = (caller-exactly-when s stack process registers caller).0 is in
+            let case = (caller_exactly_when s stack process registers caller).0 is in
             (case, clears-case caller case);
-        none-cleared =
+        none_cleared =
             λ none caller is.
-            let case = (caller-exactly-when s stack process registers caller).0 is in
-            (case, pc-as-read s stack process registers none caller case);
-        given-24 =
-            Iff.trans (number-24-exactly-when s stack process registers) (
+            let case = (caller_exactly_when s stack process registers caller).0 is in
+            (case, pc_as_read s stack process registers none caller case);
+        given_24 =
+            Iff.trans (number_24_exactly_when s stack process registers) (
               λ h. (h.0, h.1, h.2.0, h.2.1),
               λ h. (h.0, h.1, (h.2, h.3)),
             );
-        unseen = mask-unseen s stack process registers;
-        unseen-on-amd64 = amd64-unseen s stack process registers;
+        unseen = mask_unseen s stack process registers;
+        unseen_on_amd64 = amd64_unseen s stack process registers;
       }
 
   module _ (limit : ℕ) (old : List ℕ) where
-    signature-last : (frames : List Frame) (walk : Follows (CallerCase s stack process) (withMark registers) frames)
-        → DoorOpen stack process limit old → Obeys s → length frames ≤ inForce limit → (k : ℕ) (last : k < length frames) → suc k ≡ length frames
+    signature-last : (frames : List Frame) (walk : Follows (CallerCase s stack process) (with_mark registers) frames)
+        → DoorOpen stack process limit old → Obeys s → length frames ≤ in_force limit → (k : ℕ) (last : k < length frames) → suc k ≡ length frames
         → OnlySignature (mask_of (shape_of s) (walk.steps k last).row process) (walk.steps k last).ra
-        → traceOf s stack process registers limit old ≡ leftBy frames Outermost old
-    unfolding leftBy
+        → trace_of s stack process registers limit old ≡ left_by frames Outermost old
+    unfolding left_by
     signature-last frames walk opened obeys room k last is only =
-        let zero = (zero-exactly-when s stack process (walk.at k) (walk.at (suc k)) (walk.steps k last)).1 only in
-        case-answers s stack process registers limit old frames Outermost
+        let zero = (zero_exactly_when s stack process (walk.at k) (walk.at (suc k)) (walk.steps k last)).1 only in
+        case_answers s stack process registers limit old frames Outermost
         record {
           opened = opened;
           obeys = obeys;
@@ -81,16 +81,16 @@ module _ (s stack : List ℕ) (process : Process) (registers : Registers) where
     trace-clears =
         record {
           ends = signature-last;
-          unseen = mask-not-seen s stack process registers limit old;
-          unseen-on-amd64 = amd64-not-seen s stack process registers limit old;
+          unseen = mask_not_seen s stack process registers limit old;
+          unseen_on_amd64 = amd64_not_seen s stack process registers limit old;
         }
 
-pub clears-signed : ClearsSigned ours
-clears-signed = record { steps = step-clears; traces = trace-clears }
+pub clears_signed : ClearsSigned ours
+clears_signed = record { steps = step-clears; traces = trace-clears }
 
-pub signed-promised : SignedPromised
-signed-promised calls keeps = subst ClearsSigned (sym (kept-are-ours calls keeps)) clears-signed
+pub signed_promised : SignedPromised
+signed_promised calls keeps = subst ClearsSigned (sym (kept_are_ours calls keeps)) clears_signed
 
 -- of the answers that the structs of C stand for
-pub signed-exported : (flat : FlatCalls) → FlatKeeps flat → ClearsSigned (readCalls flat)
-signed-exported flat keeps = signed-promised (readCalls flat) (read_keeps flat keeps)
+pub signed_exported : (flat : FlatCalls) → FlatKeeps flat → ClearsSigned (read_calls flat)
+signed_exported flat keeps = signed_promised (read_calls flat) (read_keeps flat keeps)

@@ -2,7 +2,7 @@
 -- for one input are equal, and so are the words.
 -- Assumes nothing.
 use mathlib.Core.Path.{refl, sym, ◌∙◌, ap}
-use Rattle.suntimpani.specs.Flat.{handedAs}
+use Rattle.suntimpani.specs.Flat.{handed_as}
 use Rattle.suntimpani.proofs.asks.flat_asked.Kinds as flat_asked-kinds
 use Rattle.suntimpani.proofs.asks.flat_asked.Reads as flat_asked-reads
 use Rattle.suntimpani.proofs.flat.base_number.Kinds as base_number-kinds
@@ -51,73 +51,73 @@ use Rattle.suntimpani.proofs.walks.flat_traced.Kinds as flat_traced-kinds
 use Rattle.suntimpani.proofs.walks.flat_traced.Reads as flat_traced-reads
 use Rattle.promises.specs.Determined.{Determined}
 
-pub flat_verdict-determined : Determined flat_verdict-kinds.ps flat_verdict-kinds.r flat_verdict-reads.Learnt
-flat_verdict-determined κs a z z' w w' p q = (p ∙ sym q, refl)
+pub flat_verdict_determined : Determined flat_verdict-kinds.ps flat_verdict-kinds.r flat_verdict-reads.Learnt
+flat_verdict_determined κs a z z' w w' p q = (p ∙ sym q, refl)
 
-pub flat_row-determined : Determined flat_row-kinds.ps flat_row-kinds.r flat_row-reads.Learnt
-flat_row-determined κs a z z' w w' p q = (p ∙ sym q, refl)
+pub flat_row_determined : Determined flat_row-kinds.ps flat_row-kinds.r flat_row-reads.Learnt
+flat_row_determined κs a z z' w w' p q = (p ∙ sym q, refl)
 
-pub flat_answer-determined : Determined flat_answer-kinds.ps flat_answer-kinds.r flat_answer-reads.Learnt
-flat_answer-determined κs a z z' w w' p q = (p ∙ sym q, refl)
+pub flat_answer_determined : Determined flat_answer-kinds.ps flat_answer-kinds.r flat_answer-reads.Learnt
+flat_answer_determined κs a z z' w w' p q = (p ∙ sym q, refl)
 
-pub flat_asked-determined : Determined flat_asked-kinds.ps flat_asked-kinds.r flat_asked-reads.Learnt
-flat_asked-determined κs a z z' w w' p q = (p ∙ sym q, refl)
+pub flat_asked_determined : Determined flat_asked-kinds.ps flat_asked-kinds.r flat_asked-reads.Learnt
+flat_asked_determined κs a z z' w w' p q = (p ∙ sym q, refl)
 
-pub flat_function-determined : Determined flat_function-kinds.ps flat_function-kinds.r flat_function-reads.Learnt
-flat_function-determined κs a z z' w w' p q = (p ∙ sym q, refl)
+pub flat_function_determined : Determined flat_function-kinds.ps flat_function-kinds.r flat_function-reads.Learnt
+flat_function_determined κs a z z' w w' p q = (p ∙ sym q, refl)
 
-pub suntimpani_check-determined : Determined suntimpani_check-kinds.ps suntimpani_check-kinds.r suntimpani_check-reads.Learnt
-suntimpani_check-determined κs a z z' w w' p q = (p ∙ sym q, refl)
+pub suntimpani_check_determined : Determined suntimpani_check-kinds.ps suntimpani_check-kinds.r suntimpani_check-reads.Learnt
+suntimpani_check_determined κs a z z' w w' p q = (p ∙ sym q, refl)
 
-pub suntimpani_function_at-determined : Determined suntimpani_function_at-kinds.ps suntimpani_function_at-kinds.r suntimpani_function_at-reads.Learnt
-suntimpani_function_at-determined κs a z z' w w' p q = (p ∙ sym q, refl)
+pub suntimpani_function_at_determined : Determined suntimpani_function_at-kinds.ps suntimpani_function_at-kinds.r suntimpani_function_at-reads.Learnt
+suntimpani_function_at_determined κs a z z' w w' p q = (p ∙ sym q, refl)
 
-pub suntimpani_lookup-determined : Determined suntimpani_lookup-kinds.ps suntimpani_lookup-kinds.r suntimpani_lookup-reads.Learnt
-suntimpani_lookup-determined κs a z z' w w' p q = (p ∙ sym q, refl)
+pub suntimpani_lookup_determined : Determined suntimpani_lookup-kinds.ps suntimpani_lookup-kinds.r suntimpani_lookup-reads.Learnt
+suntimpani_lookup_determined κs a z z' w w' p q = (p ∙ sym q, refl)
 
-pub suntimpani_ask-determined : Determined suntimpani_ask-kinds.ps suntimpani_ask-kinds.r suntimpani_ask-reads.Learnt
-suntimpani_ask-determined κs a z z' w w' p q = (p ∙ sym q, refl)
+pub suntimpani_ask_determined : Determined suntimpani_ask-kinds.ps suntimpani_ask-kinds.r suntimpani_ask-reads.Learnt
+suntimpani_ask_determined κs a z z' w w' p q = (p ∙ sym q, refl)
 
-pub suntimpani_caller-determined : Determined suntimpani_caller-kinds.ps suntimpani_caller-kinds.r suntimpani_caller-reads.Learnt
-suntimpani_caller-determined κs a z z' w w' p q = (p ∙ sym q, refl)
+pub suntimpani_caller_determined : Determined suntimpani_caller-kinds.ps suntimpani_caller-kinds.r suntimpani_caller-reads.Learnt
+suntimpani_caller_determined κs a z z' w w' p q = (p ∙ sym q, refl)
 
-pub suntimpani_trace-determined : Determined suntimpani_trace-kinds.ps suntimpani_trace-kinds.r suntimpani_trace-reads.Learnt
-unfolding handedAs
-suntimpani_trace-determined κs a z z' w w' p q =
+pub suntimpani_trace_determined : Determined suntimpani_trace-kinds.ps suntimpani_trace-kinds.r suntimpani_trace-reads.Learnt
+unfolding handed_as
+suntimpani_trace_determined κs a z z' w w' p q =
     (ap (λ both. both.answer) (p ∙ sym q), ap (λ both. (tt, (tt, (tt, (tt, (tt, (both.words, tt))))))) (p ∙ sym q))
 
-pub flat_step-determined : Determined flat_step-kinds.ps flat_step-kinds.r flat_step-reads.Learnt
-flat_step-determined κs a z z' w w' p q = (p ∙ sym q, refl)
+pub flat_step_determined : Determined flat_step-kinds.ps flat_step-kinds.r flat_step-reads.Learnt
+flat_step_determined κs a z z' w w' p q = (p ∙ sym q, refl)
 
-pub flat_traced-determined : Determined flat_traced-kinds.ps flat_traced-kinds.r flat_traced-reads.Learnt
-flat_traced-determined κs a z z' w w' p q = (p ∙ sym q, refl)
+pub flat_traced_determined : Determined flat_traced-kinds.ps flat_traced-kinds.r flat_traced-reads.Learnt
+flat_traced_determined κs a z z' w w' p q = (p ∙ sym q, refl)
 
-pub base_number-determined : Determined base_number-kinds.ps base_number-kinds.r base_number-reads.Learnt
-base_number-determined κs a z z' w w' p q = (p ∙ sym q, refl)
+pub base_number_determined : Determined base_number-kinds.ps base_number-kinds.r base_number-reads.Learnt
+base_number_determined κs a z z' w w' p q = (p ∙ sym q, refl)
 
-pub empty_row-determined : Determined empty_row-kinds.ps empty_row-kinds.r empty_row-reads.Learnt
-empty_row-determined κs a z z' w w' p q = (p ∙ sym q, refl)
+pub empty_row_determined : Determined empty_row-kinds.ps empty_row-kinds.r empty_row-reads.Learnt
+empty_row_determined κs a z z' w w' p q = (p ∙ sym q, refl)
 
-pub flag_of-determined : Determined flag_of-kinds.ps flag_of-kinds.r flag_of-reads.Learnt
-flag_of-determined κs a z z' w w' p q = (p ∙ sym q, refl)
+pub flag_of_determined : Determined flag_of-kinds.ps flag_of-kinds.r flag_of-reads.Learnt
+flag_of_determined κs a z z' w w' p q = (p ∙ sym q, refl)
 
-pub place_kind-determined : Determined place_kind-kinds.ps place_kind-kinds.r place_kind-reads.Learnt
-place_kind-determined κs a z z' w w' p q = (p ∙ sym q, refl)
+pub place_kind_determined : Determined place_kind-kinds.ps place_kind-kinds.r place_kind-reads.Learnt
+place_kind_determined κs a z z' w w' p q = (p ∙ sym q, refl)
 
-pub place_offset-determined : Determined place_offset-kinds.ps place_offset-kinds.r place_offset-reads.Learnt
-place_offset-determined κs a z z' w w' p q = (p ∙ sym q, refl)
+pub place_offset_determined : Determined place_offset-kinds.ps place_offset-kinds.r place_offset-reads.Learnt
+place_offset_determined κs a z z' w w' p q = (p ∙ sym q, refl)
 
-pub flat_place-determined : Determined flat_place-kinds.ps flat_place-kinds.r flat_place-reads.Learnt
-flat_place-determined κs a z z' w w' p q = (p ∙ sym q, refl)
+pub flat_place_determined : Determined flat_place-kinds.ps flat_place-kinds.r flat_place-reads.Learnt
+flat_place_determined κs a z z' w w' p q = (p ∙ sym q, refl)
 
-pub flat_turn-determined : Determined flat_turn-kinds.ps flat_turn-kinds.r flat_turn-reads.Learnt
-flat_turn-determined κs a z z' w w' p q = (p ∙ sym q, refl)
+pub flat_turn_determined : Determined flat_turn-kinds.ps flat_turn-kinds.r flat_turn-reads.Learnt
+flat_turn_determined κs a z z' w w' p q = (p ∙ sym q, refl)
 
-pub place_read-determined : Determined place_read-kinds.ps place_read-kinds.r place_read-reads.Learnt
-place_read-determined κs a z z' w w' p q = (p ∙ sym q, refl)
+pub place_read_determined : Determined place_read-kinds.ps place_read-kinds.r place_read-reads.Learnt
+place_read_determined κs a z z' w w' p q = (p ∙ sym q, refl)
 
-pub suntimpani_next_row-determined : Determined suntimpani_next_row-kinds.ps suntimpani_next_row-kinds.r suntimpani_next_row-reads.Learnt
-suntimpani_next_row-determined κs a z z' w w' p q = (p ∙ sym q, refl)
+pub suntimpani_next_row_determined : Determined suntimpani_next_row-kinds.ps suntimpani_next_row-kinds.r suntimpani_next_row-reads.Learnt
+suntimpani_next_row_determined κs a z z' w w' p q = (p ∙ sym q, refl)
 
-pub suntimpani_rows_of-determined : Determined suntimpani_rows_of-kinds.ps suntimpani_rows_of-kinds.r suntimpani_rows_of-reads.Learnt
-suntimpani_rows_of-determined κs a z z' w w' p q = (p ∙ sym q, refl)
+pub suntimpani_rows_of_determined : Determined suntimpani_rows_of-kinds.ps suntimpani_rows_of-kinds.r suntimpani_rows_of-reads.Learnt
+suntimpani_rows_of_determined κs a z z' w w' p q = (p ∙ sym q, refl)

@@ -3,30 +3,30 @@
 -- Assumes nothing.
 use mathlib.Core.Path.{refl}
 use Prim.Native.Nat.{ℕ}
-use Rattle.section.specs.SectionS.{sectionS, overlappingS, unsortedS, at_entry, withFrame}
-use Rattle.trace.specs.inner.Opened.{traceOpened}
-use Rattle.promises.specs.Table.{replyTo, Holds, loaded, at, stackWindow, crashed, agreed, table, littleLeaf, bigLeaf, inLeaf, ofLeaf, aarch64Table, adjacentS, late_s, repeatedS, belowS, callWindow, called, ofCall, lyingAt, byEntry, byFrame, lastCallTable, sealedRows, littleSealed, bigSealed, signedS, sealedWindow, sealed, ofSealed, fromSealed, usualMask, signedTable, deepWindow, deepWords, ofDeep, fullAt, shutWith, limitTable}
-use Rattle.promises.specs.computed.Ours.{ours}
+use Rattle.section.specs.SectionS.{section_s, overlapping_s, unsorted_s, at_entry, with_frame}
+use Rattle.trace.specs.Inner.Opened.{trace_opened}
+use Rattle.promises.specs.Table.{reply_to, Holds, loaded, at, stack_window, crashed, agreed, table, little_leaf, big_leaf, in_leaf, of_leaf, aarch64_table, adjacent_s, late_s, repeated_s, below_s, call_window, called, of_call, lying_at, by_entry, by_frame, last_call_table, sealed_rows, little_sealed, big_sealed, signed_s, sealed_window, sealed, of_sealed, from_sealed, usual_mask, signed_table, deep_window, deep_words, of_deep, full_at, shut_with, limit_table}
+use Rattle.promises.specs.Computed.Ours.{ours}
 
-pub table-holds : (mask lr first a b c d e f : ℕ) → Holds ours (table mask lr first a b c d e f)
-unfolding traceOpened sectionS overlappingS unsortedS at_entry withFrame ours replyTo loaded at stackWindow crashed agreed table
-table-holds mask lr first a b c d e f =
+pub table_holds : (mask lr first a b c d e f : ℕ) → Holds ours (table mask lr first a b c d e f)
+unfolding trace_opened section_s overlapping_s unsorted_s at_entry with_frame ours reply_to loaded at stack_window crashed agreed table
+table_holds mask lr first a b c d e f =
     (refl, (refl, (refl, (refl, (refl, (refl, (refl, (refl, (refl, (refl, (refl, (refl, (refl, (refl, (refl, (refl, tt))))))))))))))))
 
-pub aarch64-holds : (mask : ℕ) → Holds ours (aarch64Table mask)
-unfolding traceOpened ours replyTo loaded stackWindow agreed littleLeaf bigLeaf inLeaf ofLeaf aarch64Table
-aarch64-holds mask = (refl, (refl, (refl, (refl, (refl, (refl, tt))))))
+pub aarch64_holds : (mask : ℕ) → Holds ours (aarch64_table mask)
+unfolding trace_opened ours reply_to loaded stack_window agreed little_leaf big_leaf in_leaf of_leaf aarch64_table
+aarch64_holds mask = (refl, (refl, (refl, (refl, (refl, (refl, tt))))))
 
-pub last-calls-hold : Holds ours lastCallTable
-unfolding traceOpened sectionS at_entry ours replyTo loaded at agreed adjacentS late_s repeatedS belowS callWindow called ofCall lyingAt byEntry byFrame lastCallTable
-last-calls-hold =
+pub last_calls_hold : Holds ours last_call_table
+unfolding trace_opened section_s at_entry ours reply_to loaded at agreed adjacent_s late_s repeated_s below_s call_window called of_call lying_at by_entry by_frame last_call_table
+last_calls_hold =
     (refl, (refl, (refl, (refl, (refl, (refl, (refl, (refl, (refl, (refl, (refl, (refl, (refl, (refl, (refl, (refl, (refl, tt)))))))))))))))))
 
-pub signed-rows-hold : (a b c d e f : ℕ) → Holds ours (signedTable a b c d e f)
-unfolding traceOpened sectionS ours replyTo loaded agreed sealedRows littleSealed bigSealed signedS sealedWindow sealed ofSealed fromSealed usualMask signedTable
-signed-rows-hold a b c d e f =
+pub signed_rows_hold : (a b c d e f : ℕ) → Holds ours (signed_table a b c d e f)
+unfolding trace_opened section_s ours reply_to loaded agreed sealed_rows little_sealed big_sealed signed_s sealed_window sealed of_sealed from_sealed usual_mask signed_table
+signed_rows_hold a b c d e f =
     (refl, (refl, (refl, (refl, (refl, (refl, (refl, (refl, (refl, (refl, (refl, (refl, (refl, tt)))))))))))))
 
-pub limits-hold : Holds ours limitTable
-unfolding traceOpened sectionS ours replyTo loaded crashed agreed deepWindow deepWords ofDeep fullAt shutWith limitTable
-limits-hold = (refl, (refl, (refl, (refl, (refl, (refl, tt))))))
+pub limits_hold : Holds ours limit_table
+unfolding trace_opened section_s ours reply_to loaded crashed agreed deep_window deep_words of_deep full_at shut_with limit_table
+limits_hold = (refl, (refl, (refl, (refl, (refl, (refl, tt))))))

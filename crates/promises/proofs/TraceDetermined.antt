@@ -2,7 +2,7 @@
 -- one input are equal, and so are the words.
 -- Assumes nothing.
 use mathlib.Core.Path.{refl, sym, ◌∙◌, ap}
-use Rattle.trace.specs.Frames.{tracedAs}
+use Rattle.trace.specs.Frames.{traced_as}
 use Rattle.trace.proofs.answer.frame_of.Kinds as frame_of-kinds
 use Rattle.trace.proofs.answer.frame_of.Reads as frame_of-reads
 use Rattle.trace.proofs.answer.number_of.Kinds as number_of-kinds
@@ -15,19 +15,19 @@ use Rattle.trace.proofs.walk.trace.Kinds as trace-kinds
 use Rattle.trace.proofs.walk.trace.Reads as trace-reads
 use Rattle.promises.specs.Determined.{Determined}
 
-pub frame_of-determined : Determined frame_of-kinds.ps frame_of-kinds.r frame_of-reads.Learnt
-frame_of-determined κs a z z' w w' p q = (p ∙ sym q, refl)
+pub frame_of_determined : Determined frame_of-kinds.ps frame_of-kinds.r frame_of-reads.Learnt
+frame_of_determined κs a z z' w w' p q = (p ∙ sym q, refl)
 
-pub number_of-determined : Determined number_of-kinds.ps number_of-kinds.r number_of-reads.Learnt
-number_of-determined κs a z z' w w' p q = (p ∙ sym q, refl)
+pub number_of_determined : Determined number_of-kinds.ps number_of-kinds.r number_of-reads.Learnt
+number_of_determined κs a z z' w w' p q = (p ∙ sym q, refl)
 
-pub write_frame-determined : Determined write_frame-kinds.ps write_frame-kinds.r write_frame-reads.Learnt
-write_frame-determined κs a z z' w w' p q = (refl, ap (λ words. (words, (tt, (tt, tt)))) (p ∙ sym q))
+pub write_frame_determined : Determined write_frame-kinds.ps write_frame-kinds.r write_frame-reads.Learnt
+write_frame_determined κs a z z' w w' p q = (refl, ap (λ words. (words, (tt, (tt, tt)))) (p ∙ sym q))
 
-pub in_force-determined : Determined in_force-kinds.ps in_force-kinds.r in_force-reads.Learnt
-in_force-determined κs a z z' w w' p q = (p ∙ sym q, refl)
+pub in_force_determined : Determined in_force-kinds.ps in_force-kinds.r in_force-reads.Learnt
+in_force_determined κs a z z' w w' p q = (p ∙ sym q, refl)
 
-pub trace-determined : Determined trace-kinds.ps trace-kinds.r trace-reads.Learnt
-unfolding tracedAs
-trace-determined κs a z z' w w' p q =
+pub trace_determined : Determined trace-kinds.ps trace-kinds.r trace-reads.Learnt
+unfolding traced_as
+trace_determined κs a z z' w w' p q =
     (ap (λ both. both.answer) (p ∙ sym q), ap (λ both. (tt, (tt, (tt, (tt, (tt, (both.words, tt))))))) (p ∙ sym q))

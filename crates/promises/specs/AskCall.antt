@@ -12,19 +12,19 @@ use Rattle.accept.specs.Rules.{Obeys}
 use Rattle.lookup.specs.Cases.{Covers}
 use Rattle.lookup.specs.declared.answer.Answer.{Answer}
 use Rattle.ask.specs.Cases.{LandsOn, OwnRulesHold, RowCase, AskCase, OnAsk}
-use Rattle.ask.specs.Numbers.{AskCause, numberOfAskCause, askNumber, SameAnswer}
+use Rattle.ask.specs.Numbers.{AskCause, number_of_ask_cause, ask_number, SameAnswer}
 use Rattle.ask.specs.ReadBy.{Compared, ReadBy, AtMostBesideRows}
-use Rattle.ask.specs.computed.Ask.{askOf}
+use Rattle.ask.specs.Computed.Ask.{ask_of}
 use Rattle.ask.specs.declared.answer.AskAnswer.{AskAnswer}
 use Rattle.ask.specs.declared.answer.AskAnswer.TheVariants.{Found, NoFunction, NoRow}
 use Rattle.ask.proofs.land.ask.Kinds as ask-kinds
 use Rattle.ask.proofs.land.ask.Reads as ask-reads
-use Rattle.suntimpani.specs.Asked.{flatAsked, readAsked}
+use Rattle.suntimpani.specs.Asked.{flat_asked, read_asked}
 use Rattle.suntimpani.specs.declared.flat.AnswerInC.{AnswerInC}
 use Rattle.suntimpani.proofs.suntimpani_ask.Kinds as flat-kinds
 use Rattle.suntimpani.proofs.suntimpani_ask.Reads as flat-reads
 use Rattle.promises.specs.Calls.{Calls}
-use Rattle.promises.specs.Contracts.{Keeps}
+use Rattle.promises.specs.StatedContracts.{Keeps}
 use Rattle.promises.specs.Demand1.{HasCause}
 use Rattle.promises.specs.Determined.{Allows}
 use Rattle.promises.specs.Exported.{FlatCalls, FlatKeeps}
@@ -39,13 +39,13 @@ AskCall = List ℕ → ℕ → ℕ → AskAnswer
 -- the number: which, exactly when, and which never
 pub record NumberAsked (s : List ℕ) (address pc : ℕ) (answer : AskAnswer) : Type 0 where
   -- 1 to 8, 21, 23, 44 and 45, each exactly when its cause holds
-  pub given : (cause : AskCause) → (askNumber answer ≡ numberOfAskCause cause) ↔ OnAsk s (distance address pc) cause
+  pub given : (cause : AskCause) → (ask_number answer ≡ number_of_ask_cause cause) ↔ OnAsk s (distance address pc) cause
   -- 0 stands for a row
-  pub found : (askNumber answer ≡ 0) ↔ ((row : Row) × (i : ℕ) × (k : ℕ) × RowCase s (distance address pc) row i k)
-  pub no_other : (askNumber answer ≡ 0) ⊎ HasCause numberOfAskCause (askNumber answer)
+  pub found : (ask_number answer ≡ 0) ↔ ((row : Row) × (i : ℕ) × (k : ℕ) × RowCase s (distance address pc) row i k)
+  pub no_other : (ask_number answer ≡ 0) ⊎ HasCause number_of_ask_cause (ask_number answer)
   -- "It never answers 22", nor a rule of an entry or of the sum
-  pub never-22 : ¬ (askNumber answer ≡ 22)
-  pub never-9-to-15 : (n : ℕ) → 9 ≤ n → n ≤ 15 → ¬ (askNumber answer ≡ n)
+  pub never_22 : ¬ (ask_number answer ≡ 22)
+  pub never_9_to_15 : (n : ℕ) → 9 ≤ n → n ≤ 15 → ¬ (ask_number answer ≡ n)
 
 -- "on a section that isn't accepted these speak only of the function landed on, if any"
 pub record AnswerMeans (s : List ℕ) (address pc : ℕ) (answer : AskAnswer) : Type 0 where
@@ -57,8 +57,8 @@ pub record AnswerMeans (s : List ℕ) (address pc : ℕ) (answer : AskAnswer) : 
   pub no_row : (i compared : ℕ) → answer ≡ NoRow i compared
       → LandsOn s (distance address pc) i × Covers s (distance address pc) i × OwnRulesHold s i
   -- 21: there is none, or it does not cover; and no row is read
-  pub no-function : (compared : ℕ) → answer ≡ NoFunction compared → (i : ℕ) → LandsOn s (distance address pc) i → ¬ Covers s (distance address pc) i
-  pub rows-unread : (compared : ℕ) → answer ≡ NoFunction compared → (p : ℕ) → ReadBy s address pc p
+  pub no_function_lem : (compared : ℕ) → answer ≡ NoFunction compared → (i : ℕ) → LandsOn s (distance address pc) i → ¬ Covers s (distance address pc) i
+  pub rows_unread : (compared : ℕ) → answer ≡ NoFunction compared → (p : ℕ) → ReadBy s address pc p
       → InSpan 0 28 p ⊎ ((i : ℕ) × Compared s (distance address pc) i × InSpan ((layout_of s).table + 20 * i) 20 p)
 
 -- ---- what is promised of what is read
@@ -81,7 +81,7 @@ pub record Asks (call : AskCall) (lookup : List ℕ → ℕ → ℕ → Answer) 
   pub little : (s : List ℕ) (address pc : ℕ) → ReadsLittle s address pc
   pub agrees : Agrees call
   -- "On an accepted sorted section its row, refusal and count equal the full answer."
-  pub as-lookup : (s : List ℕ) → Obeys s → (layout_of s).sorted ≡ true → (address pc : ℕ) → SameAnswer (call s address pc) (lookup s address pc)
+  pub as_lookup : (s : List ℕ) → Obeys s → (layout_of s).sorted ≡ true → (address pc : ℕ) → SameAnswer (call s address pc) (lookup s address pc)
 
 -- ---- the contract
 
@@ -100,22 +100,22 @@ abbrev pub FlatAskCall : Type 0
 FlatAskCall = List ℕ → ℕ → ℕ → AnswerInC
 
 -- what the contract of our exported function names
-unfoldable pub exportedAsk : FlatAskCall
-exportedAsk s address pc = flatAsked (askOf s address pc)
+unfoldable pub exported_ask : FlatAskCall
+exported_ask s address pc = flat_asked (ask_of s address pc)
 
 -- what the structs stand for
-abbrev pub readAsk : FlatAskCall → AskCall
-readAsk flat s address pc = readAsked (flat s address pc)
+abbrev pub read_ask : FlatAskCall → AskCall
+read_ask flat s address pc = read_asked (flat s address pc)
 
 pub record FlatAsks (flat : FlatAskCall) (lookup : List ℕ → ℕ → ℕ → AnswerInC) : Type 0 where
   -- nothing else stands in a struct: a field without meaning in a case is 0
-  pub flattened : (s : List ℕ) (address pc : ℕ) → flat s address pc ≡ flatAsked (readAsk flat s address pc)
+  pub flattened : (s : List ℕ) (address pc : ℕ) → flat s address pc ≡ flat_asked (read_ask flat s address pc)
   -- its number and what it means, of the answer that the struct stands for
-  pub number : (s : List ℕ) (address pc : ℕ) → NumberAsked s address pc (readAsk flat s address pc)
-  pub means : (s : List ℕ) (address pc : ℕ) → AnswerMeans s address pc (readAsk flat s address pc)
+  pub number : (s : List ℕ) (address pc : ℕ) → NumberAsked s address pc (read_ask flat s address pc)
+  pub means : (s : List ℕ) (address pc : ℕ) → AnswerMeans s address pc (read_ask flat s address pc)
   -- the same struct
   pub agrees : Agrees flat
-  pub as-lookup : (s : List ℕ) → Obeys s → (layout_of s).sorted ≡ true → (address pc : ℕ) → flat s address pc ≡ lookup s address pc
+  pub as_lookup : (s : List ℕ) → Obeys s → (layout_of s).sorted ≡ true → (address pc : ℕ) → flat s address pc ≡ lookup s address pc
 
 abbrev pub KeepsFlatAsk : FlatAskCall → Type 0
 KeepsFlatAsk flat =

@@ -49,7 +49,7 @@ module _ (T : Ended) (stated : Stated T) where
       pub ends : routine.step fuel (flat (types_at T.signature.params κs) vss) σ ≡ done (value, after)
       pub reply : Res T.signature κs
       pub last : Lasts T κs a
-      pub stands-for : StandsFor (type_at T.signature.result κs) reply value
+      pub stands_for : StandsFor (type_at T.signature.result κs) reply value
       pub allowed : says.Learnt κs a reply (at_exit T κs a last)
       pub left : after has (sem w₀.𝓛 (lasts T κs a last)
           ∗ alive w₀.𝓛 T.signature κs qs

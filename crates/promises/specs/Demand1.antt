@@ -4,19 +4,19 @@
 use Rattle.std.specs.Prelude.{◌≡◌, List, [], ◌∷◌, ◌⊎◌, ◌↔◌, ℕ, ◌*◌, length, drop}
 use Rattle.numbers.specs.Start.{distance}
 use Rattle.section.specs.declared.row.Row.{Row}
-use Rattle.accept.specs.Given.{Rule, numberOfRule, verdictNumber, verdictIndexes, Given, BrokenFirst}
+use Rattle.accept.specs.Given.{Rule, number_of_rule, verdict_number, verdict_indexes, Given, BrokenFirst}
 use Rattle.accept.specs.declared.verdict.Verdict.TheVariants as verdict
 use Rattle.lookup.specs.Cases.{OnLookup}
-use Rattle.lookup.specs.Numbers.{LookupCause, numberOfLookupCause, outcomeNumber}
+use Rattle.lookup.specs.Numbers.{LookupCause, number_of_lookup_cause, outcome_number}
 use Rattle.lookup.specs.declared.answer.Outcome.TheVariants as outcome
 use Rattle.caller.specs.Cases.{WindowFits, OnStep}
-use Rattle.caller.specs.Numbers.{StepCause, numberOfStepCause, stepNumber, stepIndexes, stepRegisters}
+use Rattle.caller.specs.Numbers.{StepCause, number_of_step_cause, step_number, step_indexes, step_registers}
 use Rattle.caller.specs.declared.registers.Registers.{Registers}
 use Rattle.caller.specs.declared.registers.Step.TheVariants as step
 use Rattle.caller.specs.declared.registers.Process.{Process}
 use Rattle.trace.specs.Cases.{AtDoor, DoorOpen, OnTrace}
 use Rattle.trace.specs.Frames.{TraceReply}
-use Rattle.trace.specs.Numbers.{TraceCause, numberOfTraceCause, endingNumber, endingIndexes}
+use Rattle.trace.specs.Numbers.{TraceCause, number_of_trace_cause, ending_number, ending_indexes}
 use Rattle.trace.specs.declared.answer.Ending.TheVariants as ending
 use Rattle.promises.specs.Calls.{Calls}
 
@@ -28,34 +28,34 @@ HasCause {Cause} number_of number = (cause : Cause) × (number ≡ number_of cau
 
 -- "A refusal returns its number and the entry's index, 0 for 1 to 8 and 15."
 pub record CheckRefuses (calls : Calls) (s : List ℕ) : Type 0 where
-  pub given : (rule : Rule) → (verdictNumber (calls.check s) ≡ numberOfRule rule) ↔ BrokenFirst s rule
-  pub known : (calls.check s ≡ verdict.Accepted) ⊎ HasCause numberOfRule (verdictNumber (calls.check s))
-  pub carries : (rule : Rule) (index : ℕ) → (calls.check s ≡ verdict.Refused (numberOfRule rule) index) ↔ Given s rule index
-  pub indexed : (index : ℕ) → (verdictIndexes (calls.check s) ≡ index ∷ []) ↔ ((rule : Rule) × Given s rule index)
+  pub given : (rule : Rule) → (verdict_number (calls.check s) ≡ number_of_rule rule) ↔ BrokenFirst s rule
+  pub known : (calls.check s ≡ verdict.Accepted) ⊎ HasCause number_of_rule (verdict_number (calls.check s))
+  pub carries : (rule : Rule) (index : ℕ) → (calls.check s ≡ verdict.Refused (number_of_rule rule) index) ↔ Given s rule index
+  pub indexed : (index : ℕ) → (verdict_indexes (calls.check s) ≡ index ∷ []) ↔ ((rule : Rule) × Given s rule index)
 
 -- "Section refusals carry 0.": no entry was compared
 pub record LookupRefuses (calls : Calls) (s : List ℕ) (address pc : ℕ) : Type 0 where
   pub given : (cause : LookupCause)
-      → (outcomeNumber (calls.lookup s address pc).outcome ≡ numberOfLookupCause cause) ↔ OnLookup s (distance address pc) cause
+      → (outcome_number (calls.lookup s address pc).outcome ≡ number_of_lookup_cause cause) ↔ OnLookup s (distance address pc) cause
   pub known : ((row : Row) × (i : ℕ) × (k : ℕ) × ((calls.lookup s address pc).outcome ≡ outcome.Found row i k))
-      ⊎ HasCause numberOfLookupCause (outcomeNumber (calls.lookup s address pc).outcome)
+      ⊎ HasCause number_of_lookup_cause (outcome_number (calls.lookup s address pc).outcome)
   pub carries : (rule : Rule) (index : ℕ)
-      → ((calls.lookup s address pc).outcome ≡ outcome.Unsound (numberOfRule rule) index) ↔ Given s rule index
-  pub no-count : (rule : Rule) (index : ℕ) → Given s rule index → (calls.lookup s address pc).compared ≡ 0
+      → ((calls.lookup s address pc).outcome ≡ outcome.Unsound (number_of_rule rule) index) ↔ Given s rule index
+  pub no_count : (rule : Rule) (index : ℕ) → Given s rule index → (calls.lookup s address pc).compared ≡ 0
 
 -- "a refusal hands back the old ones with its number, and for 1 to 15 the entry's index"
 pub record StepRefuses (calls : Calls) (s stack : List ℕ) (process : Process) (registers : Registers) : Type 0 where
   pub given : (cause : StepCause)
-      → (stepNumber (calls.step s stack process registers) ≡ numberOfStepCause cause) ↔ OnStep s stack process registers cause
+      → (step_number (calls.step s stack process registers) ≡ number_of_step_cause cause) ↔ OnStep s stack process registers cause
   pub known : ((caller : Registers) × (calls.step s stack process registers ≡ step.Caller caller))
-      ⊎ HasCause numberOfStepCause (stepNumber (calls.step s stack process registers))
+      ⊎ HasCause number_of_step_cause (step_number (calls.step s stack process registers))
   pub carries : (rule : Rule) (index : ℕ)
-      → (calls.step s stack process registers ≡ step.Unsound registers (numberOfRule rule) index) ↔ (WindowFits stack process × Given s rule index)
+      → (calls.step s stack process registers ≡ step.Unsound registers (number_of_rule rule) index) ↔ (WindowFits stack process × Given s rule index)
   -- an index comes with 1 to 15 alone
   pub indexed : (index : ℕ)
-      → (stepIndexes (calls.step s stack process registers) ≡ index ∷ []) ↔ (WindowFits stack process × (rule : Rule) × Given s rule index)
+      → (step_indexes (calls.step s stack process registers) ≡ index ∷ []) ↔ (WindowFits stack process × (rule : Rule) × Given s rule index)
   pub old : ((caller : Registers) → ¬ (calls.step s stack process registers ≡ step.Caller caller))
-      → stepRegisters (calls.step s stack process registers) ≡ registers
+      → step_registers (calls.step s stack process registers) ≡ registers
 
 -- "These write nothing and answer 0 frames"
 abbrev pub Nothing : TraceReply → List ℕ → Type 0
@@ -73,18 +73,18 @@ pub record BufferLeft (t : TraceReply) (old : List ℕ) : Type 0 where
 -- "and for 1 to 15 the entry's index"
 pub record TraceRefuses (calls : Calls) (s stack : List ℕ) (process : Process) (registers : Registers) (limit : ℕ) (old : List ℕ) : Type 0 where
   pub given : (cause : TraceCause)
-      → (endingNumber (calls.trace s stack process registers limit old).answer.ending ≡ numberOfTraceCause cause)
+      → (ending_number (calls.trace s stack process registers limit old).answer.ending ≡ number_of_trace_cause cause)
       ↔ OnTrace s stack process registers limit old cause
-  pub known : HasCause numberOfTraceCause (endingNumber (calls.trace s stack process registers limit old).answer.ending)
+  pub known : HasCause number_of_trace_cause (ending_number (calls.trace s stack process registers limit old).answer.ending)
   -- a refusal at the door is told from a refused step
-  pub at-door : (number : ℕ)
+  pub at_door : (number : ℕ)
       → ((calls.trace s stack process registers limit old).answer.ending ≡ ending.Shut number) ↔ AtDoor stack process limit old number
   pub carries : (rule : Rule) (index : ℕ)
-      → ((calls.trace s stack process registers limit old).answer.ending ≡ ending.Unsound (numberOfRule rule) index)
+      → ((calls.trace s stack process registers limit old).answer.ending ≡ ending.Unsound (number_of_rule rule) index)
       ↔ (DoorOpen stack process limit old × Given s rule index)
   -- an index comes with 1 to 15 alone
   pub indexed : (index : ℕ)
-      → (endingIndexes (calls.trace s stack process registers limit old).answer.ending ≡ index ∷ [])
+      → (ending_indexes (calls.trace s stack process registers limit old).answer.ending ≡ index ∷ [])
       ↔ (DoorOpen stack process limit old × (rule : Rule) × Given s rule index)
   pub leaves : BufferLeft (calls.trace s stack process registers limit old) old
 

@@ -8,7 +8,7 @@ use Rattle.lookup.specs.declared.answer.Answer.{Answer}
 use Rattle.caller.specs.declared.registers.Process.{Process}
 use Rattle.caller.specs.declared.registers.Registers.{Registers}
 use Rattle.caller.specs.declared.registers.Step.{Step}
-use Rattle.explain.specs.Answers.{outcomeWhy, stepWhyAnswer}
+use Rattle.explain.specs.Answers.{outcome_why, step_why_answer}
 use Rattle.explain.specs.Why.{WhyLookup, WhyStep, SumIs}
 use Rattle.explain.specs.declared.sums.Sum.{Sum}
 use Rattle.explain.specs.declared.why.LookupWhy.{LookupWhy}
@@ -20,7 +20,7 @@ use Rattle.explain.proofs.stepped.explain_step.Reads as step-reads
 use Rattle.explain.proofs.sums.sum_of.Kinds as sum-kinds
 use Rattle.explain.proofs.sums.sum_of.Reads as sum-reads
 use Rattle.promises.specs.Calls.{Calls}
-use Rattle.promises.specs.Contracts.{Keeps}
+use Rattle.promises.specs.StatedContracts.{Keeps}
 use Rattle.promises.specs.Determined.{Allows}
 
 -- ---- any calls of this form
@@ -38,17 +38,17 @@ pub record ExplainCalls : Type 0 where
 -- "The explained fact must be shown to hold of the section and registers, and to imply the answer given.": what is said holds; whatever is
 -- said that holds implies the answer, whoever says it; and so what is said is of the answer that is given
 pub record Explains (explain : ExplainCalls) (lookup : List ℕ → ℕ → ℕ → Answer) (step : List ℕ → List ℕ → Process → Registers → Step) : Type 0 where
-  pub lookup-holds : (s : List ℕ) (address pc : ℕ) → WhyLookup s address pc (explain.lookup s address pc)
-  pub lookup-implies : (s : List ℕ) (address pc : ℕ) (why : LookupWhy) → WhyLookup s address pc why → (lookup s address pc).outcome ≡ outcomeWhy why
-  pub lookup-explained : (s : List ℕ) (address pc : ℕ) → (lookup s address pc).outcome ≡ outcomeWhy (explain.lookup s address pc)
-  pub step-holds : (s stack : List ℕ) (process : Process) (registers : Registers)
+  pub lookup_holds : (s : List ℕ) (address pc : ℕ) → WhyLookup s address pc (explain.lookup s address pc)
+  pub lookup_implies : (s : List ℕ) (address pc : ℕ) (why : LookupWhy) → WhyLookup s address pc why → (lookup s address pc).outcome ≡ outcome_why why
+  pub lookup_explained : (s : List ℕ) (address pc : ℕ) → (lookup s address pc).outcome ≡ outcome_why (explain.lookup s address pc)
+  pub step_holds : (s stack : List ℕ) (process : Process) (registers : Registers)
       → WhyStep s stack process registers (explain.step s stack process registers)
-  pub step-implies : (s stack : List ℕ) (process : Process) (registers : Registers) (why : StepWhy) → WhyStep s stack process registers why
-      → step s stack process registers ≡ stepWhyAnswer registers why
-  pub step-explained : (s stack : List ℕ) (process : Process) (registers : Registers)
-      → step s stack process registers ≡ stepWhyAnswer registers (explain.step s stack process registers)
+  pub step_implies : (s stack : List ℕ) (process : Process) (registers : Registers) (why : StepWhy) → WhyStep s stack process registers why
+      → step s stack process registers ≡ step_why_answer registers why
+  pub step_explained : (s stack : List ℕ) (process : Process) (registers : Registers)
+      → step s stack process registers ≡ step_why_answer registers (explain.step s stack process registers)
   -- 25 and 28: "by how much the sum is below 0 or above 2^64 - 1, never wrapped", of a base that is an address
-  pub sum-exact : (base : ℕ) (offset : Offset) → base < 2 ^ 64 → SumIs (pos base +ℤ offset.by) (explain.sum base offset)
+  pub sum_exact : (base : ℕ) (offset : Offset) → base < 2 ^ 64 → SumIs (pos base +ℤ offset.by) (explain.sum base offset)
 
 -- ---- the contracts
 

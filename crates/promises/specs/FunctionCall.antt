@@ -5,11 +5,11 @@ use Rattle.std.specs.Prelude.{◌≡◌, true, false, List, ◌⊎◌, ◌↔◌
 use borrow.Fn.Kinds.{Dens}
 use contract.Lifetimes.{Lfts}
 use Rattle.section.specs.Entry.{repeats}
-use Rattle.section.specs.Meaning.{entryIn, functionStart}
-use Rattle.accept.specs.Given.{Rule, numberOfRule, HeaderBreaks}
-use Rattle.accept.specs.Rules.{functionCount, rowCount, HeaderObeys}
-use Rattle.listing.specs.Functions.{describedOf}
-use Rattle.suntimpani.specs.Flat.{flatFunction}
+use Rattle.section.specs.Meaning.{entry_in, function_start}
+use Rattle.accept.specs.Given.{Rule, number_of_rule, HeaderBreaks}
+use Rattle.accept.specs.Rules.{function_count, row_count, HeaderObeys}
+use Rattle.listing.specs.Functions.{described_of}
+use Rattle.suntimpani.specs.Flat.{flat_function}
 use Rattle.suntimpani.specs.declared.functions.FunctionInC.{FunctionInC}
 use Rattle.suntimpani.proofs.suntimpani_function_at.Kinds as function-kinds
 use Rattle.suntimpani.proofs.suntimpani_function_at.Reads as function-reads
@@ -22,29 +22,29 @@ abbrev pub FunctionCall : Type 0
 FunctionCall = List ℕ → ℕ → FunctionInC
 
 -- what the contract of our exported function names
-unfoldable pub exportedFunction : FunctionCall
-exportedFunction s index = flatFunction (describedOf s index)
+unfoldable pub exported_function : FunctionCall
+exported_function s index = flat_function (described_of s index)
 
 -- ---- what is promised of one answer
 
 -- the section has such a function
 abbrev pub HasFunction : List ℕ → ℕ → Type 0
-HasFunction s index = HeaderObeys s × (index < functionCount s)
+HasFunction s index = HeaderObeys s × (index < function_count s)
 
 -- the number: 0, or that of the header's first broken rule, and no other
 pub record NumberTold (s : List ℕ) (answer : FunctionInC) : Type 0 where
-  pub given : (rule : Rule) → (answer.number ≡ numberOfRule rule) ↔ HeaderBreaks s rule
+  pub given : (rule : Rule) → (answer.number ≡ number_of_rule rule) ↔ HeaderBreaks s rule
   pub none : (answer.number ≡ 0) ↔ HeaderObeys s
-  pub no_other : (answer.number ≡ 0) ⊎ HasCause numberOfRule answer.number
-  pub at-most-8 : answer.number ≤ 8
+  pub no_other : (answer.number ≡ 0) ⊎ HasCause number_of_rule answer.number
+  pub at_most_8 : answer.number ≤ 8
 
 -- where there is such a function: what its entry says. Its bit for repeated blocks tells whether its repeat size counts
 pub record EntryTold (s : List ℕ) (index : ℕ) (answer : FunctionInC) : Type 0 where
-  pub start : answer.start ≡ functionStart s index
-  pub size : answer.size ≡ (entryIn s index).size
-  pub rows : answer.rows ≡ rowCount s index
-  pub repeated : repeats (entryIn s index).info ≡ true → (answer.repeated ≡ 1) × (answer.repeat ≡ (entryIn s index).repeat)
-  pub plain : repeats (entryIn s index).info ≡ false → (answer.repeated ≡ 0) × (answer.repeat ≡ 0)
+  pub start : answer.start ≡ function_start s index
+  pub size : answer.size ≡ (entry_in s index).size
+  pub rows : answer.rows ≡ row_count s index
+  pub repeated : repeats (entry_in s index).info ≡ true → (answer.repeated ≡ 1) × (answer.repeat ≡ (entry_in s index).repeat)
+  pub plain : repeats (entry_in s index).info ≡ false → (answer.repeated ≡ 0) × (answer.repeat ≡ 0)
 
 -- where there is none: every field but the number is 0
 pub record NothingTold (answer : FunctionInC) : Type 0 where

@@ -1,7 +1,7 @@
 pub mod AskCall
 pub mod ByClauses
 pub mod Calls
-pub mod Contracts
+pub mod StatedContracts
 pub mod Demand1
 pub mod Demand2
 pub mod Demand3
@@ -22,5 +22,5 @@ pub mod SameFunctions
 pub mod SignedAddresses
 pub mod Table
 pub mod Wrong
-pub mod computed
-pub mod inner
+pub mod Computed
+pub mod Inner

@@ -7,10 +7,10 @@ use borrow.Fn.Kinds.{Dens}
 use contract.Lifetimes.{Lfts}
 use Rattle.std.specs.Borrow.{Bor}
 use denote.Triple.Clauses.{at_exit}
-use Rattle.section.specs.Meaning.{listed, functionIn, functionsOf}
-use Rattle.accept.specs.Given.{Rule, numberOfRule, Given}
-use Rattle.accept.specs.Rules.{functionCount, Obeys}
-use Rattle.listing.specs.Listing.{Listing, refused, lines, functionLineOf, linesOfFunction, functionLines, rowsAhead, rowsBelow, nextRow, nextLine, after}
+use Rattle.section.specs.Meaning.{listed, function_in, functions_of}
+use Rattle.accept.specs.Given.{Rule, number_of_rule, Given}
+use Rattle.accept.specs.Rules.{function_count, Obeys}
+use Rattle.listing.specs.Listing.{Listing, refused, lines, function_line_of, lines_of_function, function_lines, rows_ahead, rows_below, next_row, next_line, after}
 use Rattle.listing.specs.declared.lines.Cursor.{Cursor}
 use Rattle.listing.specs.declared.lines.Line.{Line}
 use Rattle.listing.specs.declared.lines.LineTurn.{LineTurn}
@@ -34,26 +34,26 @@ use Rattle.listing.specs.contracts.reader.reader_of as make
 use Rattle.listing.proofs.rows.row_turn.Kinds as turn-kinds
 use Rattle.listing.proofs.rows.row_turn.Reads as turn-reads
 use Rattle.promises.specs.Determined.{Allows}
-use Rattle.promises.specs.ReaderSays.{reader-says, turn-says}
-use Rattle.promises.specs.inner.Lent.{Lies}
+use Rattle.promises.specs.ReaderSays.{reader_says, turn_says}
+use Rattle.promises.specs.Inner.Lent.{Lies}
 
 -- ---- a listing
 
 -- the lines of an accepted section
 pub record LinesSay (s : List ℕ) (all : List Line) : Type 0 where
   -- "every function .. in section order, one line each: index, effective start, size", and its block
-  pub functions : functionLines all ≡ listed (λ i. functionLineOf i (functionIn s i)) (functionCount s) 0
+  pub functions : function_lines all ≡ listed (λ i. function_line_of i (function_in s i)) (function_count s) 0
   -- "every .. row": below a function's line stand its rows, in order and no others
-  pub rows : (i : ℕ) → i < functionCount s → rowsBelow i all ≡ (functionIn s i).rows
+  pub rows : (i : ℕ) → i < function_count s → rows_below i all ≡ (function_in s i).rows
   -- and above the first function's line none
-  pub first : rowsAhead all ≡ []
+  pub first : rows_ahead all ≡ []
 
 pub record Lists (listing : List ℕ → Listing) : Type 0 where
   -- "A refused section prints the refusal number and index alone."
-  pub refuses : (s : List ℕ) (rule : Rule) (index : ℕ) → (listing s ≡ refused (numberOfRule rule) index) ↔ Given s rule index
+  pub refuses : (s : List ℕ) (rule : Rule) (index : ℕ) → (listing s ≡ refused (number_of_rule rule) index) ↔ Given s rule index
   pub accepts : (s : List ℕ) → Obeys s → (all : List Line) × (listing s ≡ lines all) × LinesSay s all
   -- nothing of the section's meaning is lost, and nothing else is told
-  pub same : (s t : List ℕ) → Obeys s → Obeys t → (listing s ≡ listing t) ↔ (functionsOf s ≡ functionsOf t)
+  pub same : (s t : List ℕ) → Obeys s → Obeys t → (listing s ≡ listing t) ↔ (functions_of s ≡ functions_of t)
 
 -- ---- a reader of rows: where it begins on a section and an index, what a call yields, where it then stands, and its place in the section
 
@@ -66,23 +66,23 @@ pub record RowCalls : Type 1 where
 
 -- there is such a function: the section is accepted, and the index is below the number of its functions
 abbrev pub HasRows : List ℕ → ℕ → Type 0
-HasRows s i = Obeys s × (i < functionCount s)
+HasRows s i = Obeys s × (i < function_count s)
 
 -- what its calls yield, by their number, from 0 on
 pub record YieldsRows (s : List ℕ) (i : ℕ) (yielded : ℕ → NextRow) : Type 0 where
   -- "It must yield each function's rows once each and then say that there are no more.", for ever
-  pub rows : HasRows s i → (k : ℕ) → yielded k ≡ nextRow (drop k (functionIn s i).rows)
+  pub rows : HasRows s i → (k : ℕ) → yielded k ≡ next_row (drop k (function_in s i).rows)
   -- where there is no such function it says so from the first call on
   pub none : ¬ HasRows s i → (k : ℕ) → yielded k ≡ row.NoMore
 
 -- where it stands after k calls
-abbrev pub placeAfter : (calls : RowCalls) → List ℕ → ℕ → ℕ → calls.Place
-placeAfter calls s i k = after (calls.on s) k (calls.start s i)
+abbrev pub place_after : (calls : RowCalls) → List ℕ → ℕ → ℕ → calls.Place
+place_after calls s i k = after (calls.on s) k (calls.start s i)
 
 pub record ReadsRows (calls : RowCalls) : Type 0 where
-  pub yields : (s : List ℕ) (i : ℕ) → YieldsRows s i (λ k. calls.next s (placeAfter calls s i k))
+  pub yields : (s : List ℕ) (i : ℕ) → YieldsRows s i (λ k. calls.next s (place_after calls s i k))
   -- its place never leaves the section
-  pub inside : (s : List ℕ) (i k : ℕ) → calls.at (placeAfter calls s i k) ≤ length s
+  pub inside : (s : List ℕ) (i k : ℕ) → calls.at (place_after calls s i k) ≤ length s
 
 -- ---- a reader of lines: where it begins, on a section and on one function of it, what a call yields, and where it then stands
 
@@ -94,16 +94,16 @@ pub record LineCalls : Type 1 where
   pub on : List ℕ → Place → Place
 
 -- what its call k yields, from a place on
-abbrev pub lineAfter : (calls : LineCalls) → List ℕ → calls.Place → ℕ → NextLine
-lineAfter calls s place k = calls.next s (after (calls.on s) k place)
+abbrev pub line_after : (calls : LineCalls) → List ℕ → calls.Place → ℕ → NextLine
+line_after calls s place k = calls.next s (after (calls.on s) k place)
 
 pub record ReadsLines (listing : List ℕ → Listing) (calls : LineCalls) : Type 0 where
   -- the lines of the listing once each, and then no more, for ever; none of a refused section
-  pub yields : (s : List ℕ) (all : List Line) → listing s ≡ lines all → (k : ℕ) → lineAfter calls s (calls.start s) k ≡ nextLine (drop k all)
-  pub none : (s : List ℕ) (number index : ℕ) → listing s ≡ refused number index → (k : ℕ) → lineAfter calls s (calls.start s) k ≡ line.NoMore
+  pub yields : (s : List ℕ) (all : List Line) → listing s ≡ lines all → (k : ℕ) → line_after calls s (calls.start s) k ≡ next_line (drop k all)
+  pub none : (s : List ℕ) (number index : ℕ) → listing s ≡ refused number index → (k : ℕ) → line_after calls s (calls.start s) k ≡ line.NoMore
   -- one function's line and those of its rows, and none where there is no such function
-  pub of_one : (s : List ℕ) (i : ℕ) → HasRows s i → (k : ℕ) → lineAfter calls s (calls.one s i) k ≡ nextLine (drop k (linesOfFunction i (functionIn s i)))
-  pub none-of-one : (s : List ℕ) (i : ℕ) → ¬ HasRows s i → (k : ℕ) → lineAfter calls s (calls.one s i) k ≡ line.NoMore
+  pub of_one : (s : List ℕ) (i : ℕ) → HasRows s i → (k : ℕ) → line_after calls s (calls.one s i) k ≡ next_line (drop k (lines_of_function i (function_in s i)))
+  pub none_of_one : (s : List ℕ) (i : ℕ) → ¬ HasRows s i → (k : ℕ) → line_after calls s (calls.one s i) k ≡ line.NoMore
 
 -- ---- the contracts
 
@@ -123,8 +123,8 @@ pub record KeepsLines (start : List ℕ → Cursor) (one : List ℕ → ℕ → 
   pub turns : (κs : Lfts 1) (a : Dens κs line-kinds.ps)
       → Allows line-kinds.ps line-kinds.r line_reads_lem.Learnt κs a (turn a.0.now a.1.0) (tt, (tt, tt))
 
-abbrev pub rowCallsOf : (List ℕ → ℕ → RowPlace) → (List ℕ → RowPlace → RowTurn) → RowCalls
-rowCallsOf start turn =
+abbrev pub row_calls_of : (List ℕ → ℕ → RowPlace) → (List ℕ → RowPlace → RowTurn) → RowCalls
+row_calls_of start turn =
     record {
       Place = RowPlace;
       start = start;
@@ -133,8 +133,8 @@ rowCallsOf start turn =
       at = λ place. place.at;
     }
 
-abbrev pub lineCallsOf : (List ℕ → Cursor) → (List ℕ → ℕ → Cursor) → (List ℕ → Cursor → LineTurn) → LineCalls
-lineCallsOf start one turn =
+abbrev pub line_calls_of : (List ℕ → Cursor) → (List ℕ → ℕ → Cursor) → (List ℕ → Cursor → LineTurn) → LineCalls
+line_calls_of start one turn =
     record {
       Place = Cursor;
       start = start;
@@ -144,13 +144,13 @@ lineCallsOf start one turn =
     }
 
 abbrev pub RowsPromised : Type 0
-RowsPromised = (start : List ℕ → ℕ → RowPlace) (turn : List ℕ → RowPlace → RowTurn) → KeepsRows start turn → ReadsRows (rowCallsOf start turn)
+RowsPromised = (start : List ℕ → ℕ → RowPlace) (turn : List ℕ → RowPlace → RowTurn) → KeepsRows start turn → ReadsRows (row_calls_of start turn)
 
 abbrev pub LinesPromised : (List ℕ → Listing) → Type 0
 LinesPromised listing =
     (start : List ℕ → Cursor) (one : List ℕ → ℕ → Cursor) (turn : List ℕ → Cursor → LineTurn)
     → KeepsLines start one turn
-    → ReadsLines listing (lineCallsOf start one turn)
+    → ReadsLines listing (line_calls_of start one turn)
 
 -- "a row reader that holds the section's bytes and its place": the readers that the contract of `reader_of` allows first and that of
 -- `next_row` then leaves, call after call, and what these calls yield
@@ -158,9 +158,9 @@ pub record Called (section : Bor (List ℕ)) (i : ℕ) (readers : ℕ → RowRea
   pub within : Lfts 1
   pub during : ℕ → Lfts 2
   pub process : ℕ → Lies
-  pub made : reader-says.Learnt within (section, (i, tt)) (readers 0) (at_exit make.ended within (section, (i, tt)) (tt, (tt, tt)))
+  pub made : reader_says.Learnt within (section, (i, tt)) (readers 0) (at_exit make.ended within (section, (i, tt)) (tt, (tt, tt)))
   pub turns : (k : ℕ)
-      → turn-says.Learnt (during k) (record { ref_ptr = (process k).place; ghost_name = (process k).name; now = readers k }, tt) (yielded k)
+      → turn_says.Learnt (during k) (record { ref_ptr = (process k).place; ghost_name = (process k).name; now = readers k }, tt) (yielded k)
       (at_exit move.ended (during k) (record { ref_ptr = (process k).place; ghost_name = (process k).name; now = readers k }, tt) (readers (suc k), tt))
 
 pub record ReaderReads (section : Bor (List ℕ)) (i : ℕ) (readers : ℕ → RowReader) (yielded : ℕ → NextRow) : Type 0 where

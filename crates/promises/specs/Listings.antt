@@ -5,18 +5,18 @@ use Rattle.std.specs.Prelude.{Bool, true, false, List, [], ◌∷◌, ◌++◌, 
 use Rattle.numbers.specs.Field.{field_of}
 use Rattle.section.specs.Entry.{type_of}
 use Rattle.section.specs.Header.{bit_of, order_of}
-use Rattle.section.specs.Meaning.{plain, repeated, Function, entryIn}
-use Rattle.section.specs.Row.{offsetSizeOf}
+use Rattle.section.specs.Meaning.{plain, repeated, Function, entry_in}
+use Rattle.section.specs.Row.{offset_size_of}
 use Rattle.section.specs.declared.row.Base.TheVariants.{Fp, Sp}
 use Rattle.section.specs.declared.row.Place.TheVariants.{Register, AtOffset}
-use Rattle.accept.specs.Rules.{rowInfoAt}
+use Rattle.accept.specs.Rules.{row_info_at}
 
 -- ---- the two functions
 
 -- 0x1000 to 0x1020: at first CFA is SP and all is in registers; from 4 on CFA is SP + 32, RA lies at CFA - 24 and is signed, and FP lies
 -- at CFA - 32
-unfoldable pub plainFunction : Function
-plainFunction =
+unfoldable pub plain_function : Function
+plain_function =
     record {
       start = pos 0x1000;
       size = 0x20;
@@ -35,8 +35,8 @@ plainFunction =
     }
 
 -- 0x1100 to 0x1200 in blocks of 16: CFA is FP + 16, and RA lies at CFA - 8
-unfoldable pub repeatedFunction : Function
-repeatedFunction =
+unfoldable pub repeated_function : Function
+repeated_function =
     record {
       start = pos 0x1100;
       size = 0x100;
@@ -47,8 +47,8 @@ repeatedFunction =
     }
 
 -- the repeated function with CFA at FP + 24
-unfoldable pub shiftedFunction : Function
-shiftedFunction =
+unfoldable pub shifted_function : Function
+shifted_function =
     record {
       start = pos 0x1100;
       size = 0x100;
@@ -60,8 +60,8 @@ shiftedFunction =
 
 -- ---- sorted (flag 0x1), starts as they stand, no auxiliary header, 12 row bytes; row starts and offsets of 1 byte, no key bit
 
-unfoldable pub sortedListing : List ℕ
-sortedListing =
+unfoldable pub sorted_listing : List ℕ
+sorted_listing =
     -- header
     0xe2 ∷ 0xde ∷ 0x02 ∷ 0x01 ∷ 0x02 ∷ 0x00 ∷ 0x00 ∷ 0x00 ∷ 0x02 ∷ 0x00 ∷ 0x00 ∷ 0x00 ∷ 0x03 ∷ 0x00 ∷ 0x00 ∷ 0x00
     ∷ 0x0c ∷ 0x00 ∷ 0x00 ∷ 0x00 ∷ 0x00 ∷ 0x00 ∷ 0x00 ∷ 0x00 ∷ 0x28 ∷ 0x00 ∷ 0x00 ∷ 0x00
@@ -78,8 +78,8 @@ sortedListing =
 -- ---- unsorted, starts relative to their own fields (flag 0x4), 3 bytes of auxiliary header, 31 row bytes; the functions in the other
 -- order, with key bit and padding
 
-unfoldable pub otherListing : List ℕ
-otherListing =
+unfoldable pub other_listing : List ℕ
+other_listing =
     -- header, and the auxiliary header
     0xe2 ∷ 0xde ∷ 0x02 ∷ 0x04 ∷ 0x02 ∷ 0x00 ∷ 0x00 ∷ 0x03 ∷ 0x02 ∷ 0x00 ∷ 0x00 ∷ 0x00 ∷ 0x03 ∷ 0x00 ∷ 0x00 ∷ 0x00
     ∷ 0x1f ∷ 0x00 ∷ 0x00 ∷ 0x00 ∷ 0x00 ∷ 0x00 ∷ 0x00 ∷ 0x00 ∷ 0x28 ∷ 0x00 ∷ 0x00 ∷ 0x00
@@ -99,14 +99,14 @@ otherListing =
 
 -- ---- the same with the shifted function for the repeated one, by one byte of an offset
 
-unfoldable pub changedListing : List ℕ
-changedListing = set otherListing 78 0x18
+unfoldable pub changed_listing : List ℕ
+changed_listing = set other_listing 78 0x18
 
 -- ---- section S of document 01 with its two functions in the other order, starts relative to their own fields, the key bit, the signed
 -- bit, which is ignored on AMD64, and its last row left out: the second function's row is the first function's first
 
-unfoldable pub shuffledS : List ℕ
-shuffledS =
+unfoldable pub shuffled_s : List ℕ
+shuffled_s =
     -- header
     0xe2 ∷ 0xde ∷ 0x02 ∷ 0x04 ∷ 0x03 ∷ 0x00 ∷ 0xf8 ∷ 0x00 ∷ 0x02 ∷ 0x00 ∷ 0x00 ∷ 0x00 ∷ 0x03 ∷ 0x00 ∷ 0x00 ∷ 0x00
     ∷ 0x07 ∷ 0x00 ∷ 0x00 ∷ 0x00 ∷ 0x00 ∷ 0x00 ∷ 0x00 ∷ 0x00 ∷ 0x28 ∷ 0x00 ∷ 0x00 ∷ 0x00
@@ -121,31 +121,31 @@ shuffledS =
 -- ---- two sorted sections that list the same three functions in different orders: two of size 0 stand at one start
 
 -- at 0x1000: of size 0 with no row, of size 0 with the row, and of 0x20 bytes with the row
-unfoldable pub zeroRowless : List ℕ
-zeroRowless =
+unfoldable pub zero_rowless : List ℕ
+zero_rowless =
     0x00 ∷ 0x10 ∷ 0x00 ∷ 0x00 ∷ 0x00 ∷ 0x00 ∷ 0x00 ∷ 0x00 ∷ 0x00 ∷ 0x00 ∷ 0x00 ∷ 0x00 ∷ 0x00 ∷ 0x00 ∷ 0x00 ∷ 0x00 ∷ 0x00 ∷ 0x00 ∷ 0x00 ∷ 0x00 ∷ []
 
-unfoldable pub zeroWithRow : List ℕ
-zeroWithRow =
+unfoldable pub zero_with_row : List ℕ
+zero_with_row =
     0x00 ∷ 0x10 ∷ 0x00 ∷ 0x00 ∷ 0x00 ∷ 0x00 ∷ 0x00 ∷ 0x00 ∷ 0x00 ∷ 0x00 ∷ 0x00 ∷ 0x00 ∷ 0x01 ∷ 0x00 ∷ 0x00 ∷ 0x00 ∷ 0x00 ∷ 0x00 ∷ 0x00 ∷ 0x00 ∷ []
 
-unfoldable pub sizedEntry : List ℕ
-sizedEntry =
+unfoldable pub sized_entry : List ℕ
+sized_entry =
     0x00 ∷ 0x10 ∷ 0x00 ∷ 0x00 ∷ 0x20 ∷ 0x00 ∷ 0x00 ∷ 0x00 ∷ 0x00 ∷ 0x00 ∷ 0x00 ∷ 0x00 ∷ 0x01 ∷ 0x00 ∷ 0x00 ∷ 0x00 ∷ 0x00 ∷ 0x00 ∷ 0x00 ∷ 0x00 ∷ []
 
 -- an AMD64 section with these two entries, the sized one after them, and the row
-unfoldable pub zeroListing : List ℕ → List ℕ → List ℕ
-zeroListing first second =
+unfoldable pub zero_listing : List ℕ → List ℕ → List ℕ
+zero_listing first second =
     (0xe2 ∷ 0xde ∷ 0x02 ∷ 0x01 ∷ 0x03 ∷ 0x00 ∷ 0xf8 ∷ 0x00 ∷ 0x03 ∷ 0x00 ∷ 0x00 ∷ 0x00 ∷ 0x02 ∷ 0x00 ∷ 0x00 ∷ 0x00
     ∷ 0x03 ∷ 0x00 ∷ 0x00 ∷ 0x00 ∷ 0x00 ∷ 0x00 ∷ 0x00 ∷ 0x00 ∷ 0x3c ∷ 0x00 ∷ 0x00 ∷ 0x00 ∷ [])
-    ++ first ++ second ++ sizedEntry
+    ++ first ++ second ++ sized_entry
     ++ (0x00 ∷ 0x03 ∷ 0x08 ∷ [])
 
-unfoldable pub zerosListed : List ℕ
-zerosListed = zeroListing zeroRowless zeroWithRow
+unfoldable pub zeros_listed : List ℕ
+zeros_listed = zero_listing zero_rowless zero_with_row
 
-unfoldable pub zerosExchanged : List ℕ
-zerosExchanged = zeroListing zeroWithRow zeroRowless
+unfoldable pub zeros_exchanged : List ℕ
+zeros_exchanged = zero_listing zero_with_row zero_rowless
 
 -- ---- what an entry says that doesn't count
 
@@ -162,10 +162,10 @@ pub record Uncounted : Type 0 where
 unfoldable pub uncounted : List ℕ → ℕ → Uncounted
 uncounted s i =
     record {
-      type = type_of (entryIn s i).info;
-      size = offsetSizeOf (rowInfoAt s i 0);
-      key = bit_of 5 (entryIn s i).info;
-      padding = field_of s ((entryIn s i).place + 18) 2 (order_of s);
-      first = (entryIn s i).first;
-      repeat = (entryIn s i).repeat;
+      type = type_of (entry_in s i).info;
+      size = offset_size_of (row_info_at s i 0);
+      key = bit_of 5 (entry_in s i).info;
+      padding = field_of s ((entry_in s i).place + 18) 2 (order_of s);
+      first = (entry_in s i).first;
+      repeat = (entry_in s i).repeat;
     }

@@ -3,7 +3,7 @@
 -- looks at no offset, and of the rows that a lookup passes it looks at none either.
 use Rattle.std.specs.Prelude.{◌≡◌, List, ℕ, set}
 use Rattle.numbers.specs.Start.{distance}
-use Rattle.section.specs.SectionS.{sectionS}
+use Rattle.section.specs.SectionS.{section_s}
 use Rattle.accept.specs.Tried.{CheckAlike}
 use Rattle.accept.specs.declared.verdict.Verdict.TheVariants.{Accepted}
 use Rattle.lookup.specs.Scanned.{LookAlike}
@@ -12,7 +12,7 @@ use Rattle.caller.specs.declared.registers.Asked.TheVariants.{At}
 use Rattle.caller.specs.declared.registers.Registers.{Registers}
 use Rattle.caller.specs.declared.registers.Process.{Process}
 use Rattle.promises.specs.Calls.{Calls}
-use Rattle.promises.specs.Contracts.{Keeps}
+use Rattle.promises.specs.StatedContracts.{Keeps}
 
 pub record PassesRows (calls : Calls) : Type 0 where
   -- the same verdict, number and index
@@ -31,5 +31,5 @@ RowsPassed = (calls : Calls) → Keeps calls → PassesRows calls
 -- ---- an example
 
 -- section S with another offset in the first row of its first function: CFA is SP + 32 there
-unfoldable pub otherOffsetS : List ℕ
-otherOffsetS = set sectionS 70 0x20
+unfoldable pub other_offset_s : List ℕ
+other_offset_s = set section_s 70 0x20

@@ -3,7 +3,7 @@
 use Rattle.std.specs.Prelude.{List, [], ◌∷◌, ◌++◌, map}
 use Rattle.accept.specs.Given.{Rule, short, long, magic, version, flags, abi, fixed, sizes, entryInfo, repeatSize, rowsInside, rowInfo, rowsRising, sorted, rowSum}
 use Rattle.lookup.specs.Numbers as lookup
-use Rattle.lookup.specs.Numbers.{Unfound, noFunction, dispute, no_row, LookupCause}
+use Rattle.lookup.specs.Numbers.{Unfound, no_function, dispute, no_row, LookupCause}
 use Rattle.ask.specs.Numbers as ask
 use Rattle.ask.specs.Numbers.{AskCause}
 use Rattle.caller.specs.Numbers as step
@@ -11,37 +11,37 @@ use Rattle.caller.specs.Numbers.{Refusal, unfound, signed, cfaOutside, cfaLow, r
 use Rattle.trace.specs.Numbers.{TraceCause, window, limitAbove, tooFewWords, unsound, refused, outermost, full}
 
 -- a check's: 1 to 15
-unfoldable pub everyRule : List Rule
-everyRule =
+unfoldable pub every_rule : List Rule
+every_rule =
     short ∷ long ∷ magic ∷ version ∷ flags ∷ abi ∷ fixed ∷ sizes ∷ entryInfo ∷ repeatSize ∷ rowsInside ∷ rowInfo ∷ rowsRising ∷ sorted ∷ rowSum
     ∷ []
 
 -- 21 to 23
-unfoldable pub everyUnfound : List Unfound
-everyUnfound = noFunction ∷ dispute ∷ no_row ∷ []
+unfoldable pub every_unfound : List Unfound
+every_unfound = no_function ∷ dispute ∷ no_row ∷ []
 
 -- a lookup's: 1 to 15, 21 to 23
-unfoldable pub everyLookupCause : List LookupCause
-everyLookupCause = map lookup.unsound everyRule ++ map lookup.unfound everyUnfound
+unfoldable pub every_lookup_cause : List LookupCause
+every_lookup_cause = map lookup.unsound every_rule ++ map lookup.unfound every_unfound
 
 -- the header's: 1 to 8
-unfoldable pub everyHeaderRule : List Rule
-everyHeaderRule = short ∷ long ∷ magic ∷ version ∷ flags ∷ abi ∷ fixed ∷ sizes ∷ []
+unfoldable pub every_header_rule : List Rule
+every_header_rule = short ∷ long ∷ magic ∷ version ∷ flags ∷ abi ∷ fixed ∷ sizes ∷ []
 
 -- an asked address's: 1 to 8, 21, 23, 44, 45
-unfoldable pub everyAskCause : List AskCause
-everyAskCause =
-    map ask.unsound everyHeaderRule
-    ++ map ask.unanswered (ask.noFunction ∷ ask.no_row ∷ ask.damaged ∷ ask.unsorted ∷ [])
+unfoldable pub every_ask_cause : List AskCause
+every_ask_cause =
+    map ask.unsound every_header_rule
+    ++ map ask.unanswered (ask.no_function ∷ ask.no_row ∷ ask.damaged ∷ ask.unsorted ∷ [])
 
 -- a step's own: 21 to 28
-unfoldable pub everyRefusal : List Refusal
-everyRefusal = map unfound everyUnfound ++ (signed ∷ cfaOutside ∷ cfaLow ∷ raLost ∷ wordOutside ∷ [])
+unfoldable pub every_refusal : List Refusal
+every_refusal = map unfound every_unfound ++ (signed ∷ cfaOutside ∷ cfaLow ∷ raLost ∷ wordOutside ∷ [])
 
 -- a step's: 1 to 15, 21 to 28, 41
-unfoldable pub everyStepCause : List StepCause
-everyStepCause = map step.unsound everyRule ++ (map step.refused everyRefusal ++ (step.window ∷ []))
+unfoldable pub every_step_cause : List StepCause
+every_step_cause = map step.unsound every_rule ++ (map step.refused every_refusal ++ (step.window ∷ []))
 
 -- a trace's, and all that document 01 has: 1 to 15, 21 to 28, 30, 31, 41 to 43
-unfoldable pub everyTraceCause : List TraceCause
-everyTraceCause = map unsound everyRule ++ (map refused everyRefusal ++ (outermost ∷ full ∷ window ∷ limitAbove ∷ tooFewWords ∷ []))
+unfoldable pub every_trace_cause : List TraceCause
+every_trace_cause = map unsound every_rule ++ (map refused every_refusal ++ (outermost ∷ full ∷ window ∷ limitAbove ∷ tooFewWords ∷ []))

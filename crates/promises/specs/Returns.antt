@@ -63,7 +63,7 @@ module _ {n : ℕ} (ps : List (ParamKind n)) (r : ResultKind n) (Learnt : Out n 
     -- the value stands for a reply that the contract allows, with these last values of what was lent to be written
     pub reply : (res_t r κs).Denot
     pub last : Lasts (ended_of n ps r) κs a
-    pub stands-for : StandsFor (res_t r κs) reply value
+    pub stands_for : StandsFor (res_t r κs) reply value
     pub allowed : Allows ps r Learnt κs a reply last
     -- beside what is handed back, the rest is as it was
     pub left : after has HandedBack ps r κs qs a reply value last ∗ F

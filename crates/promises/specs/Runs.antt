@@ -39,40 +39,40 @@ whole block all = slice_val (block, 0) (length all)
 
 -- ---- the structs that are handed in, as the machine holds them, field by field, and that every number fits its field
 
-abbrev pub processValue : Process → Val
-processValue = process-laws.lowered
+abbrev pub process_value : Process → Val
+process_value = process-laws.lowered
 
 abbrev pub ProcessFits : Process → Type 0
-ProcessFits process = StandsFor process-type.the_row process (processValue process)
+ProcessFits process = StandsFor process-type.the_row process (process_value process)
 
-abbrev pub registersValue : Registers → Val
-registersValue = registers-laws.lowered
+abbrev pub registers_value : Registers → Val
+registers_value = registers-laws.lowered
 
 abbrev pub RegistersFit : Registers → Type 0
-RegistersFit registers = StandsFor registers-type.the_row registers (registersValue registers)
+RegistersFit registers = StandsFor registers-type.the_row registers (registers_value registers)
 
-abbrev pub rowsValue : RowsInC → Val
-rowsValue = rows-laws.lowered
+abbrev pub rows_value : RowsInC → Val
+rows_value = rows-laws.lowered
 
 abbrev pub RowsFit : RowsInC → Type 0
-RowsFit rows = StandsFor rows-type.the_row rows (rowsValue rows)
+RowsFit rows = StandsFor rows-type.the_row rows (rows_value rows)
 
 -- ---- words to write, in a third block
 
 abbrev pub Words : List ℕ → Type 0
 Words ws = AllFit w64 ws × (length ws * 8 < 2 ^ 63)
 
-abbrev pub bufferType : ℕ → Ty
-bufferType n = ty_array (ty_int w64) n
+abbrev pub buffer_type : ℕ → Ty
+buffer_type n = ty_array (ty_int w64) n
 
-abbrev pub wordsValue : List ℕ → Val
-wordsValue ws = vstruct (of_list (map (vint w64) ws))
+abbrev pub words_value : List ℕ → Val
+words_value ws = vstruct (of_list (map (vint w64) ws))
 
 -- σ is the memory of a section and a stack with one more block, in which the words old are stored
 abbrev pub WithBuffer : List ℕ → List ℕ → List ℕ → Memory → Type 0
 WithBuffer s stack old σ =
-    store_m (alloc_m (start_mem s stack) (bufferType (length old))) (bufferType (length old)) 2 0 (wordsValue old) ≡ some σ
+    store_m (alloc_m (start_mem s stack) (buffer_type (length old))) (buffer_type (length old)) 2 0 (words_value old) ≡ some σ
 
 -- a load of the n words there gives ws
 abbrev pub BufferHas : Memory → ℕ → List ℕ → Type 0
-BufferHas σ n ws = load_m σ (bufferType n) 2 0 ≡ some (wordsValue ws)
+BufferHas σ n ws = load_m σ (buffer_type n) 2 0 ≡ some (words_value ws)

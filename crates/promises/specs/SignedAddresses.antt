@@ -8,18 +8,18 @@ use Rattle.section.specs.declared.row.Row.{Row}
 use Rattle.section.specs.declared.shape.Abi.TheVariants.{Amd64}
 use Rattle.accept.specs.Rules.{Obeys}
 use Rattle.caller.specs.Cases.{RowFound, CallerCase}
-use Rattle.caller.specs.Numbers.{stepNumber}
-use Rattle.caller.specs.Signature.{Signed, mask_of, withMask, Cleared, OnlySignature}
+use Rattle.caller.specs.Numbers.{step_number}
+use Rattle.caller.specs.Signature.{Signed, mask_of, with_mask, Cleared, OnlySignature}
 use Rattle.caller.specs.declared.registers.Process.{Process}
 use Rattle.caller.specs.declared.registers.Registers.{Registers}
 use Rattle.caller.specs.declared.registers.Step.TheVariants.{Caller}
 use Rattle.trace.specs.Cases.{DoorOpen, Follows}
-use Rattle.trace.specs.Frames.{inForce, withMark}
+use Rattle.trace.specs.Frames.{in_force, with_mark}
 use Rattle.trace.specs.declared.answer.Ending.TheVariants.{Outermost}
 use Rattle.trace.specs.declared.answer.Frame.{Frame}
 use Rattle.promises.specs.Calls.{Calls}
-use Rattle.promises.specs.Contracts.{Keeps}
-use Rattle.promises.specs.Demand2.{leftBy}
+use Rattle.promises.specs.StatedContracts.{Keeps}
+use Rattle.promises.specs.Demand2.{left_by}
 
 -- ---- a step
 
@@ -31,31 +31,31 @@ pub record StepClears (calls : Calls) (s stack : List ℕ) (process : Process) (
       × ((Signed (shape_of s) case.row × Cleared process.mask case.ra caller.pc)
       ⊎ ((¬ Signed (shape_of s) case.row) × (caller.pc ≡ case.ra)))
   -- with mask 0 nothing is cleared
-  pub none-cleared : process.mask ≡ 0 → (caller : Registers) → calls.step s stack process registers ≡ Caller caller
+  pub none_cleared : process.mask ≡ 0 → (caller : Registers) → calls.step s stack process registers ≡ Caller caller
       → (case : CallerCase s stack process registers caller) × (caller.pc ≡ case.ra)
   -- 24, and with mask 0 as document 01 said
-  pub given-24 : (stepNumber (calls.step s stack process registers) ≡ 24)
+  pub given_24 : (step_number (calls.step s stack process registers) ≡ 24)
       ↔ ((row : Row) × RowFound s stack process registers row × Signed (shape_of s) row × (process.mask ≡ 0))
   -- where no signed row is found, any mask gives the same answer
   pub unseen : ((row : Row) → RowFound s stack process registers row → ¬ Signed (shape_of s) row) → (mask : ℕ)
-      → calls.step s stack (withMask process mask) registers ≡ calls.step s stack process registers
+      → calls.step s stack (with_mask process mask) registers ≡ calls.step s stack process registers
   -- so everywhere on AMD64
-  pub unseen-on-amd64 : (layout_of s).abi ≡ Amd64 → (mask : ℕ)
-      → calls.step s stack (withMask process mask) registers ≡ calls.step s stack process registers
+  pub unseen_on_amd64 : (layout_of s).abi ≡ Amd64 → (mask : ℕ)
+      → calls.step s stack (with_mask process mask) registers ≡ calls.step s stack process registers
 
 -- ---- a trace
 
 pub record TraceClears (calls : Calls) (s stack : List ℕ) (process : Process) (registers : Registers) (limit : ℕ) (old : List ℕ) : Type 0 where
   -- a walk that comes to an RA of which only signature bits are set ends there with 30
-  pub ends : (frames : List Frame) (walk : Follows (CallerCase s stack process) (withMark registers) frames)
-      → DoorOpen stack process limit old → Obeys s → length frames ≤ inForce limit → (k : ℕ) (last : k < length frames) → suc k ≡ length frames
+  pub ends : (frames : List Frame) (walk : Follows (CallerCase s stack process) (with_mark registers) frames)
+      → DoorOpen stack process limit old → Obeys s → length frames ≤ in_force limit → (k : ℕ) (last : k < length frames) → suc k ≡ length frames
       → OnlySignature (mask_of (shape_of s) (walk.steps k last).row process) (walk.steps k last).ra
-      → calls.trace s stack process registers limit old ≡ leftBy frames Outermost old
+      → calls.trace s stack process registers limit old ≡ left_by frames Outermost old
   -- where no signed row is found, any mask gives the same words, count and ending
   pub unseen : ((from : Registers) (row : Row) → RowFound s stack process from row → ¬ Signed (shape_of s) row) → (mask : ℕ)
-      → calls.trace s stack (withMask process mask) registers limit old ≡ calls.trace s stack process registers limit old
-  pub unseen-on-amd64 : (layout_of s).abi ≡ Amd64 → (mask : ℕ)
-      → calls.trace s stack (withMask process mask) registers limit old ≡ calls.trace s stack process registers limit old
+      → calls.trace s stack (with_mask process mask) registers limit old ≡ calls.trace s stack process registers limit old
+  pub unseen_on_amd64 : (layout_of s).abi ≡ Amd64 → (mask : ℕ)
+      → calls.trace s stack (with_mask process mask) registers limit old ≡ calls.trace s stack process registers limit old
 
 pub record ClearsSigned (calls : Calls) : Type 0 where
   pub steps : (s stack : List ℕ) (process : Process) (registers : Registers) → StepClears calls s stack process registers

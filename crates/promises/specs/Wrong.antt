@@ -2,18 +2,18 @@
 -- does not matter what the others of the four answer, with calls that have it.
 use Rattle.std.specs.Prelude.{◌≡◌, Bool, true, false, List, [], ◌∷◌, ℕ, suc, eqb, length, get_or, take, replicate}
 use Rattle.section.specs.declared.row.Row.{Row}
-use Rattle.accept.specs.computed.Checks.{verdict}
+use Rattle.accept.specs.Computed.Checks.{verdict}
 use Rattle.accept.specs.declared.verdict.Verdict.TheVariants as verdict
-use Rattle.lookup.specs.Numbers.{outcomeNumber}
-use Rattle.lookup.specs.computed.Answers.{lookupOf}
+use Rattle.lookup.specs.Numbers.{outcome_number}
+use Rattle.lookup.specs.Computed.Answers.{lookup_of}
 use Rattle.lookup.specs.declared.answer.Outcome.TheVariants.{Found, NoFunction}
-use Rattle.caller.specs.computed.Caller.{stepIn}
+use Rattle.caller.specs.Computed.Caller.{step_in}
 use Rattle.caller.specs.declared.registers.Registers.{Registers}
 use Rattle.caller.specs.declared.registers.Process.{Process}
-use Rattle.trace.specs.Cases.{noFrame}
-use Rattle.trace.specs.Frames.{tracedAs, allWords, over}
-use Rattle.trace.specs.Numbers.{endingNumber}
-use Rattle.trace.specs.computed.Trace.{walkIn, traceOf}
+use Rattle.trace.specs.Cases.{no_frame}
+use Rattle.trace.specs.Frames.{traced_as, all_words, over}
+use Rattle.trace.specs.Numbers.{ending_number}
+use Rattle.trace.specs.Computed.Trace.{walk_in, trace_of}
 use Rattle.trace.specs.declared.answer.Frame.{Frame}
 use Rattle.promises.specs.Calls.{Calls}
 
@@ -28,7 +28,7 @@ module _ (calls : Calls) where
 
   -- "or always 21"
   abbrev pub Always21 : Type 0
-  Always21 = (s : List ℕ) (address pc : ℕ) → outcomeNumber (calls.lookup s address pc).outcome ≡ 21
+  Always21 = (s : List ℕ) (address pc : ℕ) → outcome_number (calls.lookup s address pc).outcome ≡ 21
 
   -- "a made-up count": one that does not go by the PC, whatever it is for each section
   abbrev pub MadeUpCount : (List ℕ → ℕ) → Type 0
@@ -46,7 +46,7 @@ module _ (calls : Calls) where
       (s stack : List ℕ) (process : Process) (registers : Registers) (limit : ℕ) (old : List ℕ)
       → (frame : Frame)
       × ((calls.trace s stack process registers limit old).words
-      ≡ over (allWords (replicate (calls.trace s stack process registers limit old).answer.frames frame)) old)
+      ≡ over (all_words (replicate (calls.trace s stack process registers limit old).answer.frames frame)) old)
 
   -- "or invents the others": they are these, by all that is handed in but the stack
   abbrev pub InventsFrames : (List ℕ → Process → Registers → ℕ → List ℕ → List Frame) → Type 0
@@ -54,46 +54,46 @@ module _ (calls : Calls) where
       (s stack : List ℕ) (process : Process) (registers : Registers) (limit : ℕ) (old : List ℕ)
       → (frame : Frame)
       × ((calls.trace s stack process registers limit old).words
-      ≡ over (allWords (take (calls.trace s stack process registers limit old).answer.frames (frame ∷ made s process registers limit old))) old)
+      ≡ over (all_words (take (calls.trace s stack process registers limit old).answer.frames (frame ∷ made s process registers limit old))) old)
 
   -- a trace that writes where it ends with this number; 41 to 43 and 1 to 15 "write nothing"
   abbrev pub WritesOn : ℕ → Type 0
   WritesOn number =
       (s stack : List ℕ) (process : Process) (registers : Registers) (limit : ℕ) (old : List ℕ)
-      → endingNumber (calls.trace s stack process registers limit old).answer.ending ≡ number
+      → ending_number (calls.trace s stack process registers limit old).answer.ending ≡ number
       → ¬ ((calls.trace s stack process registers limit old).words ≡ old)
 
 -- ---- such calls: ours but for one
 
-unfoldable pub refusingEverything : Calls
-refusingEverything = record { check = λ s. verdict.Refused 1 0; lookup = lookupOf; step = stepIn; trace = traceOf }
+unfoldable pub refusing_everything : Calls
+refusing_everything = record { check = λ s. verdict.Refused 1 0; lookup = lookup_of; step = step_in; trace = trace_of }
 
 -- this row of a section, at every PC
-unfoldable pub findingOneRow : (List ℕ → Row) → Calls
-findingOneRow row =
+unfoldable pub finding_one_row : (List ℕ → Row) → Calls
+finding_one_row row =
     record {
       check = verdict;
-      lookup = λ s address pc. record { outcome = Found (row s) 0 0; compared = (lookupOf s address pc).compared };
-      step = stepIn;
-      trace = traceOf;
+      lookup = λ s address pc. record { outcome = Found (row s) 0 0; compared = (lookup_of s address pc).compared };
+      step = step_in;
+      trace = trace_of;
     }
 
 unfoldable pub answering21 : Calls
 answering21 =
     record {
       check = verdict;
-      lookup = λ s address pc. record { outcome = NoFunction; compared = (lookupOf s address pc).compared };
-      step = stepIn;
-      trace = traceOf;
+      lookup = λ s address pc. record { outcome = NoFunction; compared = (lookup_of s address pc).compared };
+      step = step_in;
+      trace = trace_of;
     }
 
-unfoldable pub countingBy : (List ℕ → ℕ) → Calls
-countingBy count =
+unfoldable pub counting_by : (List ℕ → ℕ) → Calls
+counting_by count =
     record {
       check = verdict;
-      lookup = λ s address pc. record { outcome = (lookupOf s address pc).outcome; compared = count s };
-      step = stepIn;
-      trace = traceOf;
+      lookup = λ s address pc. record { outcome = (lookup_of s address pc).outcome; compared = count s };
+      step = step_in;
+      trace = trace_of;
     }
 
 -- the answer is ours, the words are others
@@ -101,39 +101,39 @@ unfoldable pub leaving : (List ℕ → List ℕ → Process → Registers → �
 leaving words =
     record {
       check = verdict;
-      lookup = lookupOf;
-      step = stepIn;
+      lookup = lookup_of;
+      step = step_in;
       trace =
           λ s stack process registers limit old.
-          tracedAs (traceOf s stack process registers limit old).answer (words s stack process registers limit old);
+          traced_as (trace_of s stack process registers limit old).answer (words s stack process registers limit old);
     }
 
-unfoldable pub writingNothing : Calls
-writingNothing = leaving λ s stack process registers limit old. old
+unfoldable pub writing_nothing : Calls
+writing_nothing = leaving λ s stack process registers limit old. old
 
 -- the frames of our walk
-abbrev pub framesOf : List ℕ → List ℕ → Process → Registers → ℕ → List ℕ → List Frame
-framesOf s stack process registers limit old = (walkIn s stack process registers limit (length old)).frames
+abbrev pub frames_of : List ℕ → List ℕ → Process → Registers → ℕ → List ℕ → List Frame
+frames_of s stack process registers limit old = (walk_in s stack process registers limit (length old)).frames
 
-unfoldable pub repeatingFrames : Calls
-repeatingFrames =
+unfoldable pub repeating_frames : Calls
+repeating_frames =
     leaving λ s stack process registers limit old.
-    let frames = framesOf s stack process registers limit old in
-    over (allWords (replicate (length frames) (get_or frames 0 noFrame))) old
+    let frames = frames_of s stack process registers limit old in
+    over (all_words (replicate (length frames) (get_or frames 0 no_frame))) old
 
-unfoldable pub inventingFrames : (List ℕ → Process → Registers → ℕ → List ℕ → List Frame) → Calls
-inventingFrames made =
+unfoldable pub inventing_frames : (List ℕ → Process → Registers → ℕ → List ℕ → List Frame) → Calls
+inventing_frames made =
     leaving λ s stack process registers limit old.
-    let frames = framesOf s stack process registers limit old in
-    over (allWords (take (length frames) (get_or frames 0 noFrame ∷ made s process registers limit old))) old
+    let frames = frames_of s stack process registers limit old in
+    over (all_words (take (length frames) (get_or frames 0 no_frame ∷ made s process registers limit old))) old
 
 -- where our trace ends with this number, the first word is another than it was
-unfoldable pub changedWhere : Bool → List ℕ → List ℕ → List ℕ
-changedWhere true old words = over (suc (get_or old 0 0) ∷ []) old
-changedWhere false old words = words
+unfoldable pub changed_where : Bool → List ℕ → List ℕ → List ℕ
+changed_where true old words = over (suc (get_or old 0 0) ∷ []) old
+changed_where false old words = words
 
-unfoldable pub writingOn : ℕ → Calls
-writingOn number =
+unfoldable pub writing_on : ℕ → Calls
+writing_on number =
     leaving λ s stack process registers limit old.
-    changedWhere (eqb (endingNumber (traceOf s stack process registers limit old).answer.ending) number) old
-    (traceOf s stack process registers limit old).words
+    changed_where (eqb (ending_number (trace_of s stack process registers limit old).answer.ending) number) old
+    (trace_of s stack process registers limit old).words

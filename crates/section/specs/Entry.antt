@@ -30,8 +30,8 @@ repeats info = bit_of 4 info
 
 -- "The effective start counts from the first byte of the section: the start field, plus the field's own position in the
 -- section when flag 0x4 is set.": what the start field at a place counts from, and the start of an entry
-unfoldable pub positionAt : Bool → ℕ → ℕ
-positionAt relative place = elim relative [ true ↦ place | false ↦ 0 ]
+unfoldable pub position_at : Bool → ℕ → ℕ
+position_at relative place = elim relative [ true ↦ place | false ↦ 0 ]
 
 unfoldable pub start_of : Bool → Entry → ℤ
-start_of relative entry = start_at entry.start (positionAt relative entry.place)
+start_of relative entry = start_at entry.start (position_at relative entry.place)

@@ -5,4 +5,4 @@ pub mod Row
 pub mod Same
 pub mod SectionS
 pub mod Shape
-pub mod inner
+pub mod Inner

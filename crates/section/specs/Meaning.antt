@@ -1,10 +1,10 @@
 -- The meaning of a section: the list of its functions, in the order in which it lists them. What document 01 says does not
 -- count (field widths, key bit, padding, place in the row area, the repeat size of a plain block, the signed bit on AMD64)
--- is left out, so that two functions, or two rows, are the same exactly when they are equal (`function-same`, `row_same`).
+-- is left out, so that two functions, or two rows, are the same exactly when they are equal (`function_same`, `row_same`).
 use Rattle.std.specs.Prelude.{ℕ, zero, suc, ◌+◌, ◌*◌, true, false, List, [], ◌∷◌, ℤ, pos, ◌+ℤ◌, drop}
 use Rattle.section.specs.Entry.{entry_of, type_of, repeats, start_of}
 use Rattle.section.specs.Header.{layout_of, order_of}
-use Rattle.section.specs.Row.{row_of, rowPlace}
+use Rattle.section.specs.Row.{row_of, row_place}
 use Rattle.section.specs.Shape.{shape}
 use Rattle.section.specs.declared.entry.Entry.{Entry}
 use Rattle.section.specs.declared.row.Row.{Row}
@@ -28,42 +28,42 @@ listed f zero k = []
 listed f (suc count) k = f k ∷ listed f count (suc k)
 
 -- the row area, a list of its own: after check 8 it is what follows the function table
-unfoldable pub areaOf : List ℕ → List ℕ
-areaOf s = drop (layout_of s).area s
+unfoldable pub area_of : List ℕ → List ℕ
+area_of s = drop (layout_of s).area s
 
 unfoldable pub shape_of : List ℕ → Shape
 shape_of s = shape (layout_of s).abi
 
 -- entry i of a section
-unfoldable pub entryIn : List ℕ → ℕ → Entry
-entryIn s i = entry_of s (order_of s) ((layout_of s).table + 20 * i)
+unfoldable pub entry_in : List ℕ → ℕ → Entry
+entry_in s i = entry_of s (order_of s) ((layout_of s).table + 20 * i)
 
 unfoldable pub block_of : Entry → Block
 block_of entry = elim (repeats entry.info) [ true ↦ repeated entry.repeat | false ↦ plain ]
 
 -- the effective start of function i, and where it ends: "start plus size"
-abbrev pub functionStart : List ℕ → ℕ → ℤ
-functionStart s i = start_of (layout_of s).relative (entryIn s i)
+abbrev pub function_start : List ℕ → ℕ → ℤ
+function_start s i = start_of (layout_of s).relative (entry_in s i)
 
-abbrev pub functionEnd : List ℕ → ℕ → ℤ
-functionEnd s i = functionStart s i +ℤ pos (entryIn s i).size
+abbrev pub function_end : List ℕ → ℕ → ℤ
+function_end s i = function_start s i +ℤ pos (entry_in s i).size
 
 -- where row k of function i stands in the row area
-abbrev pub rowPlaceAt : List ℕ → ℕ → ℕ → ℕ
-rowPlaceAt s i k = rowPlace (areaOf s) (type_of (entryIn s i).info) (entryIn s i).first k
+abbrev pub row_place_at : List ℕ → ℕ → ℕ → ℕ
+row_place_at s i k = row_place (area_of s) (type_of (entry_in s i).info) (entry_in s i).first k
 
 -- row k of an entry
 unfoldable pub row_in : List ℕ → Shape → Entry → ℕ → Row
-row_in area shape entry k = row_of area shape (type_of entry.info) (rowPlace area (type_of entry.info) entry.first k)
+row_in area shape entry k = row_of area shape (type_of entry.info) (row_place area (type_of entry.info) entry.first k)
 
-unfoldable pub functionIn : List ℕ → ℕ → Function
-functionIn s i =
+unfoldable pub function_in : List ℕ → ℕ → Function
+function_in s i =
     record {
-      start = functionStart s i;
-      size = (entryIn s i).size;
-      block = block_of (entryIn s i);
-      rows = listed (row_in (areaOf s) (shape_of s) (entryIn s i)) (entryIn s i).rows 0;
+      start = function_start s i;
+      size = (entry_in s i).size;
+      block = block_of (entry_in s i);
+      rows = listed (row_in (area_of s) (shape_of s) (entry_in s i)) (entry_in s i).rows 0;
     }
 
-unfoldable pub functionsOf : List ℕ → List Function
-functionsOf s = listed (functionIn s) (layout_of s).functions 0
+unfoldable pub functions_of : List ℕ → List Function
+functions_of s = listed (function_in s) (layout_of s).functions 0

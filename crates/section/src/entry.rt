@@ -1,7 +1,7 @@
 // A function entry: its fields as they stand, with its own place, and its effective start.
 ghost use Rattle.std.specs.Prelude.{◌≡◌, ◌+◌, ◌≤◌, length};
-ghost use Rattle.numbers.specs.inner.Held.{raised, Held};
-ghost use Rattle.section.specs.Entry.{entry_of, type_of, repeats, positionAt, start_of};
+ghost use Rattle.numbers.specs.Inner.Held.{raised, Held};
+ghost use Rattle.section.specs.Entry.{entry_of, type_of, repeats, position_at, start_of};
 
 use crate::header::bit_of;
 use numbers::field::{Order, u8_at, u32_at};
@@ -52,7 +52,7 @@ pub fn does_repeat(info: u8) -> bool
 
 // What the start field at a place counts from: that place under flag 0x4, else the section.
 fn position_at(relative: bool, place: u32) -> u32
-    ensures { result ≡ positionAt relative place }
+    ensures { result ≡ position_at relative place }
 {
     if relative {
         return place;

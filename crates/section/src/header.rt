@@ -2,7 +2,7 @@
 ghost use Rattle.std.specs.Prelude.{◌≡◌, ◌+◌, ◌≤◌, ◌<◌, length};
 ghost use Rattle.numbers.specs.Field.{byte_of};
 ghost use Rattle.numbers.specs.Signed.{offset_of};
-ghost use Rattle.section.specs.Header.{bit_of, magicIn, order_of, marksOf, sizesOf, layout_of};
+ghost use Rattle.section.specs.Header.{bit_of, magic_in, order_of, marks_of, sizes_of, layout_of};
 
 use crate::shape::{Abi, abi_of};
 use numbers::field::{Order, u8_at, u16_at, u32_at};
@@ -55,7 +55,7 @@ pub fn bit_of(k: u32, byte: u8) -> bool
 // Whether the first two bytes make the magic in this order.
 pub fn magic_in(section: &[u8], order: Order) -> bool
     requires { 28 ≤ length section.now }
-    ensures { result ≡ magicIn section.now order }
+    ensures { result ≡ magic_in section.now order }
 {
     if u16_at(section, 0, order) == 0xdee2 {
         return true;
@@ -83,7 +83,7 @@ fn fixed_at(section: &[u8], at: usize) -> Offset
 
 pub fn marks_at(section: &[u8]) -> Marks
     requires { 28 ≤ length section.now }
-    ensures { result ≡ marksOf section.now }
+    ensures { result ≡ marks_of section.now }
 {
     Marks {
         version: u8_at(section, 2),
@@ -97,7 +97,7 @@ pub fn marks_at(section: &[u8]) -> Marks
 
 pub fn sizes_at(section: &[u8], order: Order) -> Sizes
     requires { 28 ≤ length section.now }
-    ensures { result ≡ sizesOf section.now order }
+    ensures { result ≡ sizes_of section.now order }
 {
     Sizes {
         functions: u32_at(section, 8, order),

@@ -1,8 +1,8 @@
 // A row of a function: its length, and the row as a value, with the place of RA and of FP each one of two kinds.
 ghost use Rattle.std.specs.Prelude.{◌&&◌, ◌≡◌, ◌+◌, ◌*◌, ◌^◌, ◌≤◌, ◌<◌, length};
 ghost use Rattle.numbers.specs.Field.{field_of};
-ghost use Rattle.section.specs.Row.{infoOf, base_of, countOf, offsetSizeOf, signedBit, offsetsLength, rowLength, offsetIn, place_in, raIn, row_of};
-ghost use Rattle.section.specs.inner.Reading.{Readable, Announced};
+ghost use Rattle.section.specs.Row.{info_of, base_of, count_of, offset_size_of, signed_bit, offsets_length, row_length, offset_in, place_in, ra_in, row_of};
+ghost use Rattle.section.specs.Inner.Reading.{Readable, Announced};
 
 use crate::header::bit_of;
 use crate::shape::Shape;
@@ -44,7 +44,7 @@ pub fn row_start_at(area: &[u8], order: Order, code: usize, at: usize) -> u64
 // The info byte of the row at `at`.
 pub fn info_at(area: &[u8], code: usize, at: usize) -> u8
     requires { (code ≤ 2) × (at + 2 ^ code + 1 ≤ length area.now) }
-    ensures { result ≡ infoOf area.now code at }
+    ensures { result ≡ info_of area.now code at }
 {
     u8_at(area, at + width_of(code))
 }
@@ -60,20 +60,20 @@ fn base_of(info: u8) -> Base
 }
 
 pub fn count_of(info: u8) -> u8
-    ensures { result ≡ countOf info }
+    ensures { result ≡ count_of info }
 {
     info / 2 % 16
 }
 
 pub fn offset_size_of(info: u8) -> u8
-    ensures { result ≡ offsetSizeOf info }
+    ensures { result ≡ offset_size_of info }
 {
     info / 32 % 4
 }
 
 // Whether the return address is signed, where the ABI knows such a thing.
 fn is_signed(signs: bool, info: u8) -> bool
-    ensures { result ≡ signs && signedBit info }
+    ensures { result ≡ signs && signed_bit info }
 {
     if signs {
         return bit_of(7, info);
@@ -83,7 +83,7 @@ fn is_signed(signs: bool, info: u8) -> bool
 
 // How many bytes the offsets have that an info byte announces: at most 15 of 8 bytes, if any info byte is taken.
 fn offsets_length(info: u8) -> usize
-    ensures value { result ≡ offsetsLength info }
+    ensures value { result ≡ offsets_length info }
     ensures range { result ≤ 120 }
 {
     count_of(info) as usize * width_of(offset_size_of(info) as usize)
@@ -92,7 +92,7 @@ fn offsets_length(info: u8) -> usize
 // How many bytes the row at `at` has.
 pub fn row_length(area: &[u8], code: usize, at: usize) -> usize
     requires { (code ≤ 2) × (at + 2 ^ code + 1 ≤ length area.now) }
-    ensures { result ≡ rowLength area.now code at }
+    ensures { result ≡ row_length area.now code at }
 {
     width_of(code) + 1 + offsets_length(info_at(area, code, at))
 }
@@ -100,7 +100,7 @@ pub fn row_length(area: &[u8], code: usize, at: usize) -> usize
 // Offset k, counted from 0, of those that begin at `from`.
 fn offset_in(area: &[u8], order: Order, size: usize, from: usize, k: usize) -> Offset
     requires { (size ≤ 2) × (from + k * 2 ^ size + 2 ^ size ≤ length area.now) }
-    ensures { result ≡ offsetIn area.now order size from k }
+    ensures { result ≡ offset_in area.now order size from k }
 {
     offset_at(area, from + k * width_of(size), size, order)
 }
@@ -124,7 +124,7 @@ fn place_in(area: &[u8], order: Order, info: u8, from: usize, k: u8) -> Place
 
 fn ra_in(area: &[u8], shape: Shape, info: u8, from: usize) -> Place
     requires { Announced area.now info from }
-    ensures { result ≡ raIn area.now shape info from }
+    ensures { result ≡ ra_in area.now shape info from }
 {
     if shape.usesfixed {
         let fixed = shape.fixedra;

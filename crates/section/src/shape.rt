@@ -1,6 +1,6 @@
 // What differs by ABI, in one place: a fourth ABI is one more arm.
 ghost use Rattle.std.specs.Prelude.{◌≡◌};
-ghost use Rattle.section.specs.Shape.{abiOf, aarch64Shape, amd64Shape, shape};
+ghost use Rattle.section.specs.Shape.{abi_of, aarch64_shape, amd64_shape, shape};
 
 use numbers::field::Order;
 use numbers::offset::Offset;
@@ -30,7 +30,7 @@ pub struct Shape {
 
 // The ABI that the header's code names. Check 6 refuses a code that names none.
 pub fn abi_of(code: u8) -> Abi
-    ensures { result ≡ abiOf code }
+    ensures { result ≡ abi_of code }
 {
     match code {
         1 => Abi::Aarch64Big,
@@ -40,7 +40,7 @@ pub fn abi_of(code: u8) -> Abi
 }
 
 fn aarch64(order: Order) -> Shape
-    ensures { result ≡ aarch64Shape order }
+    ensures { result ≡ aarch64_shape order }
 {
     Shape {
         order: order,
@@ -54,7 +54,7 @@ fn aarch64(order: Order) -> Shape
 }
 
 fn amd64() -> Shape
-    ensures { result ≡ amd64Shape }
+    ensures { result ≡ amd64_shape }
 {
     Shape {
         order: Order::Little,

@@ -6,49 +6,49 @@ use Prim.Native.Nat.{ℕ}
 use native.Mathlib.Omega.{arith}
 use borrow.Author.Tests.{ne_eqb}
 use Rattle.numbers.specs.Start.{distance}
-use Rattle.accept.proofs.Exactly.{number-of-rule}
-use Rattle.lookup.specs.Numbers.{numberOfUnfound}
+use Rattle.accept.proofs.Exactly.{number_of_rule_lem}
+use Rattle.lookup.specs.Numbers.{number_of_unfound}
 use Rattle.ask.specs.Cases.{AskCase}
-use Rattle.ask.specs.Numbers.{numberOfUnanswered, askNumber, askIndexes, askRow, askCompared}
-use Rattle.ask.specs.computed.Ask.{askOf}
+use Rattle.ask.specs.Numbers.{number_of_unanswered, ask_number, ask_indexes, ask_row, ask_compared}
+use Rattle.ask.specs.Computed.Ask.{ask_of}
 use Rattle.ask.specs.declared.answer.AskAnswer.{AskAnswer}
 use Rattle.ask.specs.declared.answer.AskAnswer.TheVariants as ask
-use Rattle.ask.proofs.CaseLaws.{some-case}
-use Rattle.suntimpani.specs.Asked.{flatAsked, readAsked}
-use Rattle.suntimpani.specs.Flat.{flatRow}
-use Rattle.suntimpani.specs.inner.Numbered.{AskNumbered}
-use Rattle.suntimpani.proofs.Lossless.{read-row, lossless}
+use Rattle.ask.proofs.CaseLaws.{some_case}
+use Rattle.suntimpani.specs.Asked.{flat_asked, read_asked}
+use Rattle.suntimpani.specs.Flat.{flat_row}
+use Rattle.suntimpani.specs.Inner.Numbered.{AskNumbered}
+use Rattle.suntimpani.proofs.Lossless.{read_row_lem, lossless}
 
-read_asked : (answer : AskAnswer) → AskNumbered answer → readAsked (flatAsked answer) ≡ answer
-unfolding readAsked flatAsked flatRow askNumber numberOfUnanswered numberOfUnfound askIndexes askRow askCompared
-read_asked (ask.Found function compared number row) numbered =
-    ap (λ r. ask.Found function compared number r) (read-row 0 function 0 compared number row)
-read_asked (ask.Unsound number) numbered =
-    rw (ne_eqb number 0 λ is. omega (arith, numbered.0, is), readAsked)
+read_asked_lem : (answer : AskAnswer) → AskNumbered answer → read_asked (flat_asked answer) ≡ answer
+unfolding read_asked flat_asked flat_row ask_number number_of_unanswered number_of_unfound ask_indexes ask_row ask_compared
+read_asked_lem (ask.Found function compared number row) numbered =
+    ap (λ r. ask.Found function compared number r) (read_row_lem 0 function 0 compared number row)
+read_asked_lem (ask.Unsound number) numbered =
+    rw (ne_eqb number 0 λ is. omega (arith, numbered.0, is), read_asked)
     (rw (ne_eqb number 21 λ is. omega (arith, numbered.1, is))
     (rw (ne_eqb number 23 λ is. omega (arith, numbered.1, is))
     (rw (ne_eqb number 44 λ is. omega (arith, numbered.1, is)) (rw (ne_eqb number 45 λ is. omega (arith, numbered.1, is)) refl))))
-read_asked ask.Unsorted numbered = refl
-read_asked (ask.NoFunction compared) numbered = refl
-read_asked (ask.NoRow function compared) numbered = refl
-read_asked (ask.Damaged function compared) numbered = refl
+read_asked_lem ask.Unsorted numbered = refl
+read_asked_lem (ask.NoFunction compared) numbered = refl
+read_asked_lem (ask.NoRow function compared) numbered = refl
+read_asked_lem (ask.Damaged function compared) numbered = refl
 
 module _ (s : List ℕ) (address pc : ℕ) where
-  ask-numbered : AskNumbered (askOf s address pc)
-  ask-numbered = by (askOf s address pc) (some-case s address pc)
+  ask-numbered : AskNumbered (ask_of s address pc)
+  ask-numbered = by (ask_of s address pc) (some_case s address pc)
     where
       by : (answer : AskAnswer) → AskCase s (distance address pc) answer → AskNumbered answer
       by (ask.Found function compared number row) case = tt
-      by (ask.Unsound number) (rule, is, breaks) = (omega (arith, is, number-of-rule rule), omega (arith, is, breaks.0))
+      by (ask.Unsound number) (rule, is, breaks) = (omega (arith, is, number_of_rule_lem rule), omega (arith, is, breaks.0))
       by ask.Unsorted case = tt
       by (ask.NoFunction compared) case = tt
       by (ask.NoRow function compared) case = tt
       by (ask.Damaged function compared) case = tt
 
-  pub ask-read-back : readAsked (flatAsked (askOf s address pc)) ≡ askOf s address pc
-  ask-read-back = read_asked (askOf s address pc) ask-numbered
+  pub ask_read_back : read_asked (flat_asked (ask_of s address pc)) ≡ ask_of s address pc
+  ask_read_back = read_asked_lem (ask_of s address pc) ask-numbered
 
-pub ask-lossless : (s t : List ℕ) (address other pc also : ℕ)
-    → flatAsked (askOf s address pc) ≡ flatAsked (askOf t other also) → askOf s address pc ≡ askOf t other also
-ask-lossless s t address other pc also =
-    lossless flatAsked readAsked _ _ (ask-read-back s address pc) (ask-read-back t other also)
+pub ask_lossless : (s t : List ℕ) (address other pc also : ℕ)
+    → flat_asked (ask_of s address pc) ≡ flat_asked (ask_of t other also) → ask_of s address pc ≡ ask_of t other also
+ask_lossless s t address other pc also =
+    lossless flat_asked read_asked _ _ (ask_read_back s address pc) (ask_read_back t other also)

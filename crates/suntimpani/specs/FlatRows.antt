@@ -7,41 +7,41 @@ use Rattle.listing.specs.declared.rows.NextRow.{NextRow}
 use Rattle.listing.specs.declared.rows.NextRow.TheVariants.{One, NoMore}
 use Rattle.listing.specs.declared.rows.RowPlace.{RowPlace}
 use Rattle.listing.specs.declared.rows.RowTurn.{RowTurn}
-use Rattle.suntimpani.specs.Flat.{baseNumber, placeKind, placeOffset, flag, emptyRow}
+use Rattle.suntimpani.specs.Flat.{base_number, place_kind, place_offset, flag, empty_row}
 use Rattle.suntimpani.specs.declared.rows.RowInC.{RowInC}
 use Rattle.suntimpani.specs.declared.rows.RowsInC.{RowsInC}
 
 -- ---- where a reader stands
 
 -- the header's code
-unfoldable pub abiNumber : Abi → ℕ
-abiNumber Aarch64Big = 1
-abiNumber Aarch64Little = 2
-abiNumber Amd64 = 3
+unfoldable pub abi_number : Abi → ℕ
+abi_number Aarch64Big = 1
+abi_number Aarch64Little = 2
+abi_number Amd64 = 3
 
-unfoldable pub flatPlace : RowPlace → RowsInC
-flatPlace place = record { abi = abiNumber place.abi; code = place.code; at = place.at; left = place.left }
+unfoldable pub flat_place : RowPlace → RowsInC
+flat_place place = record { abi = abi_number place.abi; code = place.code; at = place.at; left = place.left }
 
 -- ---- a turn: 1 and the row, or 0 and no row, and where the reader then stands
 
-unfoldable pub flatNext : ℕ → Row → RowPlace → RowInC
-flatNext more row place =
+unfoldable pub flat_next : ℕ → Row → RowPlace → RowInC
+flat_next more row place =
     record {
       more = more;
       start = row.start;
-      base = baseNumber row.base;
+      base = base_number row.base;
       cfa = row.cfa.by;
-      raplace = placeKind row.ra;
-      ra = (placeOffset row.ra).by;
-      fpplace = placeKind row.fp;
-      fp = (placeOffset row.fp).by;
+      raplace = place_kind row.ra;
+      ra = (place_offset row.ra).by;
+      fpplace = place_kind row.fp;
+      fp = (place_offset row.fp).by;
       signedra = flag row.signed;
-      rest = flatPlace place;
+      rest = flat_place place;
     }
 
-unfoldable pub flatYield : NextRow → RowPlace → RowInC
-flatYield (One row) place = flatNext 1 row place
-flatYield NoMore place = flatNext 0 emptyRow place
+unfoldable pub flat_yield : NextRow → RowPlace → RowInC
+flat_yield (One row) place = flat_next 1 row place
+flat_yield NoMore place = flat_next 0 empty_row place
 
-unfoldable pub flatTurn : RowTurn → RowInC
-flatTurn turn = flatYield turn.next turn.place
+unfoldable pub flat_turn : RowTurn → RowInC
+flat_turn turn = flat_yield turn.next turn.place

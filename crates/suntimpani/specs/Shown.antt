@@ -18,10 +18,10 @@ pub data Shown : Type 0 where
   unknown : Shown
   known : ShownFunction → Shown
 
-unfoldable pub shownFacts : Facts → ShownFunction
-shownFacts facts = record { start = facts.start.by; size = facts.size; rows = facts.rows.left; kind = facts.kind }
+unfoldable pub shown_facts : Facts → ShownFunction
+shown_facts facts = record { start = facts.start.by; size = facts.size; rows = facts.rows.left; kind = facts.kind }
 
-unfoldable pub shownOf : Described → Shown
-shownOf (Unsound number) = unsound number
-shownOf Unknown = unknown
-shownOf (Function facts) = known (shownFacts facts)
+unfoldable pub shown_of : Described → Shown
+shown_of (Unsound number) = unsound number
+shown_of Unknown = unknown
+shown_of (Function facts) = known (shown_facts facts)

@@ -1,12 +1,12 @@
 // The answer of an asked address as the flat struct that C sees, the same as a lookup's. Fields without meaning in a case are 0.
 ghost use Rattle.std.specs.Prelude.{◌≡◌};
-ghost use Rattle.suntimpani.specs.Asked.{flatAsked};
+ghost use Rattle.suntimpani.specs.Asked.{flat_asked};
 
 use crate::flat::{AnswerInC, empty_row, flat_row};
 use ask::answer::AskAnswer;
 
 pub fn flat_asked(answer: AskAnswer) -> AnswerInC
-    ensures { result ≡ flatAsked answer }
+    ensures { result ≡ flat_asked answer }
 {
     match answer {
         AskAnswer::Found {

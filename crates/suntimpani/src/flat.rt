@@ -1,6 +1,6 @@
 // Verdicts and lookups' answers as the flat structs that C sees. Fields without meaning in a case are 0.
 ghost use Rattle.std.specs.Prelude.{◌≡◌};
-ghost use Rattle.suntimpani.specs.Flat.{flatVerdict, baseNumber, placeKind, placeOffset, flag, emptyRow, flatRow, flatAnswer};
+ghost use Rattle.suntimpani.specs.Flat.{flat_verdict, base_number, place_kind, place_offset, flag, empty_row, flat_row, flat_answer};
 
 use accept::verdict::Verdict;
 use lookup::answer::{Answer, Outcome};
@@ -35,7 +35,7 @@ pub struct AnswerInC {
 }
 
 pub fn flat_verdict(answer: Verdict) -> VerdictInC
-    ensures { result ≡ flatVerdict answer }
+    ensures { result ≡ flat_verdict answer }
 {
     match answer {
         Verdict::Accepted => VerdictInC {
@@ -50,7 +50,7 @@ pub fn flat_verdict(answer: Verdict) -> VerdictInC
 }
 
 pub fn base_number(base: Base) -> u64
-    ensures { result ≡ baseNumber base }
+    ensures { result ≡ base_number base }
 {
     match base {
         Base::Fp => 0,
@@ -59,7 +59,7 @@ pub fn base_number(base: Base) -> u64
 }
 
 pub fn place_kind(place: Place) -> u64
-    ensures { result ≡ placeKind place }
+    ensures { result ≡ place_kind place }
 {
     match place {
         Place::Register => 0,
@@ -68,7 +68,7 @@ pub fn place_kind(place: Place) -> u64
 }
 
 pub fn place_offset(place: Place) -> Offset
-    ensures { result ≡ placeOffset place }
+    ensures { result ≡ place_offset place }
 {
     match place {
         Place::Register => Offset { by: 0 },
@@ -87,7 +87,7 @@ pub fn flag_of(set: bool) -> u64
 
 // What stands in the fields of a row where none was found: it flattens to 0 in each.
 pub fn empty_row() -> Row
-    ensures { result ≡ emptyRow }
+    ensures { result ≡ empty_row }
 {
     Row {
         start: 0,
@@ -107,7 +107,7 @@ pub fn flat_row(
     row: u64,
     decoded: Row,
 ) -> AnswerInC
-    ensures { result ≡ flatRow number function second compared row decoded }
+    ensures { result ≡ flat_row number function second compared row decoded }
 {
     let base = decoded.base;
     let cfa = decoded.cfa;
@@ -133,7 +133,7 @@ pub fn flat_row(
 }
 
 pub fn flat_answer(answer: Answer) -> AnswerInC
-    ensures { result ≡ flatAnswer answer }
+    ensures { result ≡ flat_answer answer }
 {
     let compared = answer.compared;
     let outcome = answer.outcome;

@@ -1,6 +1,6 @@
 // A function by its index as the flat struct that C sees. Fields without meaning in a case are 0.
 ghost use Rattle.std.specs.Prelude.{◌≡◌};
-ghost use Rattle.suntimpani.specs.Flat.{kindNumber, repeatOf, noFunction, flatFacts, flatFunction};
+ghost use Rattle.suntimpani.specs.Flat.{kind_number, repeat_of, no_function, flat_facts, flat_function};
 
 use listing::function::{Described, Facts, Kind};
 
@@ -19,7 +19,7 @@ pub struct FunctionInC {
 }
 
 fn kind_number(kind: Kind) -> u64
-    ensures { result ≡ kindNumber kind }
+    ensures { result ≡ kind_number kind }
 {
     match kind {
         Kind::Plain => 0,
@@ -28,7 +28,7 @@ fn kind_number(kind: Kind) -> u64
 }
 
 fn repeat_of(kind: Kind) -> u64
-    ensures { result ≡ repeatOf kind }
+    ensures { result ≡ repeat_of kind }
 {
     match kind {
         Kind::Plain => 0,
@@ -37,7 +37,7 @@ fn repeat_of(kind: Kind) -> u64
 }
 
 fn no_function(number: u64) -> FunctionInC
-    ensures { result ≡ noFunction number }
+    ensures { result ≡ no_function number }
 {
     FunctionInC {
         number: number,
@@ -51,7 +51,7 @@ fn no_function(number: u64) -> FunctionInC
 }
 
 fn flat_facts(facts: Facts) -> FunctionInC
-    ensures { result ≡ flatFacts facts }
+    ensures { result ≡ flat_facts facts }
 {
     let start = facts.start;
     let kind = facts.kind;
@@ -68,7 +68,7 @@ fn flat_facts(facts: Facts) -> FunctionInC
 }
 
 pub fn flat_function(described: Described) -> FunctionInC
-    ensures { result ≡ flatFunction described }
+    ensures { result ≡ flat_function described }
 {
     match described {
         Described::Unsound(number) => no_function(number),

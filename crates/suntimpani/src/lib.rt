@@ -6,18 +6,18 @@ pub mod rows;
 pub mod walks;
 
 ghost use Rattle.std.specs.Prelude.{◌≡◌};
-ghost use Rattle.accept.specs.computed.Checks.{verdict};
-ghost use Rattle.listing.specs.Functions.{describedOf};
-ghost use Rattle.listing.specs.computed.Reader.{place_in};
-ghost use Rattle.listing.specs.computed.Turns.{rowTurn};
-ghost use Rattle.lookup.specs.computed.Answers.{lookupOf};
-ghost use Rattle.ask.specs.computed.Ask.{askOf};
-ghost use Rattle.caller.specs.computed.Caller.{stepIn};
-ghost use Rattle.trace.specs.computed.Trace.{traceOf};
-ghost use Rattle.suntimpani.specs.Asked.{flatAsked};
-ghost use Rattle.suntimpani.specs.Flat.{flatVerdict, flatFunction, flatAnswer, flatStep, handedAs, flatTrace};
-ghost use Rattle.suntimpani.specs.FlatRows.{flatPlace, flatTurn};
-ghost use Rattle.suntimpani.specs.Read.{readRows};
+ghost use Rattle.accept.specs.Computed.Checks.{verdict};
+ghost use Rattle.listing.specs.Functions.{described_of};
+ghost use Rattle.listing.specs.Computed.Reader.{place_in};
+ghost use Rattle.listing.specs.Computed.Turns.{row_turn};
+ghost use Rattle.lookup.specs.Computed.Answers.{lookup_of};
+ghost use Rattle.ask.specs.Computed.Ask.{ask_of};
+ghost use Rattle.caller.specs.Computed.Caller.{step_in};
+ghost use Rattle.trace.specs.Computed.Trace.{trace_of};
+ghost use Rattle.suntimpani.specs.Asked.{flat_asked};
+ghost use Rattle.suntimpani.specs.Flat.{flat_verdict, flat_function, flat_answer, flat_step, handed_as, flat_trace};
+ghost use Rattle.suntimpani.specs.FlatRows.{flat_place, flat_turn};
+ghost use Rattle.suntimpani.specs.Read.{read_rows};
 
 use crate::asks::flat_asked;
 use crate::flat::{AnswerInC, VerdictInC, flat_answer, flat_verdict};
@@ -35,42 +35,42 @@ use trace::walk::trace;
 
 #[unsafe(no_mangle)]
 pub extern "C" fn suntimpani_check(section: &[u8]) -> VerdictInC
-    ensures { result ≡ flatVerdict (verdict section.now) }
+    ensures { result ≡ flat_verdict (verdict section.now) }
 {
     flat_verdict(check(section))
 }
 
 #[unsafe(no_mangle)]
 pub extern "C" fn suntimpani_function_at(section: &[u8], index: u64) -> FunctionInC
-    ensures { result ≡ flatFunction (describedOf section.now index) }
+    ensures { result ≡ flat_function (described_of section.now index) }
 {
     flat_function(function_at(section, index))
 }
 
 #[unsafe(no_mangle)]
 pub extern "C" fn suntimpani_rows_of(section: &[u8], index: u64) -> RowsInC
-    ensures { result ≡ flatPlace (place_in (describedOf section.now index)) }
+    ensures { result ≡ flat_place (place_in (described_of section.now index)) }
 {
     flat_place(place_in(function_at(section, index)))
 }
 
 #[unsafe(no_mangle)]
 pub extern "C" fn suntimpani_next_row(section: &[u8], rows: RowsInC) -> RowInC
-    ensures { result ≡ flatTurn (rowTurn section.now (readRows rows)) }
+    ensures { result ≡ flat_turn (row_turn section.now (read_rows rows)) }
 {
     flat_turn(row_turn(section, place_read(rows)))
 }
 
 #[unsafe(no_mangle)]
 pub extern "C" fn suntimpani_lookup(section: &[u8], address: u64, pc: u64) -> AnswerInC
-    ensures { result ≡ flatAnswer (lookupOf section.now address pc) }
+    ensures { result ≡ flat_answer (lookup_of section.now address pc) }
 {
     flat_answer(lookup(section, address, pc))
 }
 
 #[unsafe(no_mangle)]
 pub extern "C" fn suntimpani_ask(section: &[u8], address: u64, pc: u64) -> AnswerInC
-    ensures { result ≡ flatAsked (askOf section.now address pc) }
+    ensures { result ≡ flat_asked (ask_of section.now address pc) }
 {
     flat_asked(ask(section, address, pc))
 }
@@ -82,7 +82,7 @@ pub extern "C" fn suntimpani_caller(
     process: Process,
     registers: Registers,
 ) -> StepInC
-    ensures { result ≡ flatStep (stepIn section.now stack.now process registers) }
+    ensures { result ≡ flat_step (step_in section.now stack.now process registers) }
 {
     flat_step(registers.step(section, stack, process))
 }
@@ -96,7 +96,7 @@ pub extern "C" fn suntimpani_trace(
     limit: u64,
     buffer: &mut [u64],
 ) -> TracedInC
-    ensures { handedAs result buffer.new ≡ flatTrace (traceOf section.now stack.now process registers limit buffer.old) }
+    ensures { handed_as result buffer.new ≡ flat_trace (trace_of section.now stack.now process registers limit buffer.old) }
 {
     flat_traced(trace(section, stack, process, registers, limit, buffer))
 }

@@ -1,8 +1,8 @@
 // Rows one at a time as the flat structs that C sees: where a reader stands, and one turn of it. Fields without meaning in a case are 0.
 ghost use Rattle.std.specs.Prelude.{◌≡◌};
-ghost use Rattle.section.specs.Shape.{abiOf};
-ghost use Rattle.suntimpani.specs.FlatRows.{abiNumber, flatPlace, flatNext, flatTurn};
-ghost use Rattle.suntimpani.specs.Read.{readRows};
+ghost use Rattle.section.specs.Shape.{abi_of};
+ghost use Rattle.suntimpani.specs.FlatRows.{abi_number, flat_place, flat_next, flat_turn};
+ghost use Rattle.suntimpani.specs.Read.{read_rows};
 
 use crate::flat::{base_number, empty_row, flag_of, place_kind, place_offset};
 use listing::rows::{NextRow, RowPlace, RowTurn};
@@ -37,7 +37,7 @@ pub struct RowInC {
 }
 
 fn abi_number(abi: Abi) -> u64
-    ensures { result ≡ abiNumber abi }
+    ensures { result ≡ abi_number abi }
 {
     match abi {
         Abi::Aarch64Big => 1,
@@ -48,7 +48,7 @@ fn abi_number(abi: Abi) -> u64
 
 // Any number names an ABI, since any may be handed in: a place that was handed out has one of the three.
 fn abi_named(number: u64) -> Abi
-    ensures { result ≡ abiOf number }
+    ensures { result ≡ abi_of number }
 {
     match number {
         1 => Abi::Aarch64Big,
@@ -58,7 +58,7 @@ fn abi_named(number: u64) -> Abi
 }
 
 pub fn flat_place(place: RowPlace) -> RowsInC
-    ensures { result ≡ flatPlace place }
+    ensures { result ≡ flat_place place }
 {
     let abi = place.abi;
     RowsInC {
@@ -71,7 +71,7 @@ pub fn flat_place(place: RowPlace) -> RowsInC
 
 // The place that is handed in, whatever its numbers.
 pub fn place_read(rows: RowsInC) -> RowPlace
-    ensures { result ≡ readRows rows }
+    ensures { result ≡ read_rows rows }
 {
     RowPlace {
         abi: abi_named(rows.abi),
@@ -82,7 +82,7 @@ pub fn place_read(rows: RowsInC) -> RowPlace
 }
 
 fn flat_next(more: u64, row: Row, place: RowPlace) -> RowInC
-    ensures { result ≡ flatNext more row place }
+    ensures { result ≡ flat_next more row place }
 {
     let base = row.base;
     let cfa = row.cfa;
@@ -105,7 +105,7 @@ fn flat_next(more: u64, row: Row, place: RowPlace) -> RowInC
 }
 
 pub fn flat_turn(turn: RowTurn) -> RowInC
-    ensures { result ≡ flatTurn turn }
+    ensures { result ≡ flat_turn turn }
 {
     let next = turn.next;
     match next {

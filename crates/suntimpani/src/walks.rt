@@ -1,6 +1,6 @@
 // Steps and traces as the flat structs that C sees. Fields without meaning in a case are 0.
 ghost use Rattle.std.specs.Prelude.{◌≡◌};
-ghost use Rattle.suntimpani.specs.Flat.{flatStep, flatTraced};
+ghost use Rattle.suntimpani.specs.Flat.{flat_step, flat_traced};
 
 use caller::registers::{Registers, Step};
 use trace::answer::{Ending, Traced};
@@ -24,7 +24,7 @@ pub struct TracedInC {
 }
 
 pub fn flat_step(step: Step) -> StepInC
-    ensures { result ≡ flatStep step }
+    ensures { result ≡ flat_step step }
 {
     match step {
         Step::Caller(caller) => StepInC {
@@ -46,7 +46,7 @@ pub fn flat_step(step: Step) -> StepInC
 }
 
 pub fn flat_traced(traced: Traced) -> TracedInC
-    ensures { result ≡ flatTraced traced }
+    ensures { result ≡ flat_traced traced }
 {
     let frames = traced.frames;
     let ending = traced.ending;

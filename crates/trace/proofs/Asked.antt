@@ -9,64 +9,64 @@ use Prim.Native.Nat.{ℕ, zero, suc, ◌-◌, ◌<◌}
 use native.Mathlib.Omega.{arith}
 use lib.ListN.{length}
 use Rattle.lookup.specs.Cases.{NoneCovers}
-use Rattle.lookup.specs.Numbers.{noFunction, numberOfUnfound}
+use Rattle.lookup.specs.Numbers.{no_function, number_of_unfound}
 use Rattle.caller.specs.Cases.{LookedUp, CallerCase, OnRefusal}
 use Rattle.caller.specs.Frame.{asked_of}
-use Rattle.caller.specs.Numbers.{unfound, numberOfRefusal}
+use Rattle.caller.specs.Numbers.{unfound, number_of_refusal}
 use Rattle.caller.specs.declared.registers.Asked.TheVariants.{At, Nowhere}
 use Rattle.caller.specs.declared.registers.Registers.{Registers}
 use Rattle.caller.specs.declared.registers.Process.{Process}
-use Rattle.caller.proofs.Asked.{asked-exactly-when, nowhere-exactly-when}
+use Rattle.caller.proofs.Asked.{asked_exactly_when, nowhere_exactly_when}
 use Rattle.trace.specs.Cases.{Follows, NotOutermost, EndsRefused, WalkMade}
-use Rattle.trace.specs.Frames.{inForce, withMark}
-use Rattle.trace.specs.Numbers.{endingNumber}
-use Rattle.trace.specs.computed.Trace.{traceOf}
+use Rattle.trace.specs.Frames.{in_force, with_mark}
+use Rattle.trace.specs.Numbers.{ending_number}
+use Rattle.trace.specs.Computed.Trace.{trace_of}
 use Rattle.trace.specs.declared.answer.Frame.{Frame}
 use Rattle.trace.proofs.Exactly as trace
 
 -- "The walk starts with the mark set": its first step asks PC itself
-pub asked-first : (registers : Registers) → asked_of (withMark registers) ≡ At registers.pc
-unfolding withMark
-asked-first registers = (asked-exactly-when (withMark registers) registers.pc).1 (inl ((λ e. omega arith), refl))
+pub asked_first : (registers : Registers) → asked_of (with_mark registers) ≡ At registers.pc
+unfolding with_mark
+asked_first registers = (asked_exactly_when (with_mark registers) registers.pc).1 (inl ((λ e. omega arith), refl))
 
-module _ (s stack : List ℕ) (process : Process) (registers : Registers) {frames : List Frame} (f : Follows (CallerCase s stack process) (withMark registers) frames) where
+module _ (s stack : List ℕ) (process : Process) (registers : Registers) {frames : List Frame} (f : Follows (CallerCase s stack process) (with_mark registers) frames) where
   -- every later step, also one that is refused, asks its return address minus 1
-  pub asked-later : (k : ℕ) → k < length frames → ¬ ((f.at (suc k)).pc ≡ 0) → asked_of (f.at (suc k)) ≡ At ((f.at (suc k)).pc - 1)
-  asked-later k less far =
-      let none = (f.steps k less).first-is in
-      (asked-exactly-when (f.at (suc k)) _).1 (inr (none, omega (arith, far)))
+  pub asked_later : (k : ℕ) → k < length frames → ¬ ((f.at (suc k)).pc ≡ 0) → asked_of (f.at (suc k)) ≡ At ((f.at (suc k)).pc - 1)
+  asked_later k less far =
+      let none = (f.steps k less).first_is in
+      (asked_exactly_when (f.at (suc k)) _).1 (inr (none, omega (arith, far)))
 
   -- no step of a walk, from the first to the one that is refused, meets PC 0 without the mark: RA 0 has ended it with 30
-  pub never-nowhere : (k : ℕ) → NotOutermost k (f.at k) → ¬ (asked_of (f.at k) ≡ Nowhere)
-  unfolding withMark
-  never-nowhere zero far e =
-      let none = ((nowhere-exactly-when (f.at 0)).0 e).0 in
+  pub never_nowhere : (k : ℕ) → NotOutermost k (f.at k) → ¬ (asked_of (f.at k) ≡ Nowhere)
+  unfolding with_mark
+  never_nowhere zero far e =
+      let none = ((nowhere_exactly_when (f.at 0)).0 e).0 in
       let marked : (f.at 0).first ≡ 1 = ap (λ r. r.first) f.starts in
       omega (arith, none, marked)
-  never-nowhere (suc k) far e = far (omega arith) ((nowhere-exactly-when (f.at (suc k))).0 e).1
+  never_nowhere (suc k) far e = far (omega arith) ((nowhere_exactly_when (f.at (suc k))).0 e).1
 
 module _ (s stack : List ℕ) (process : Process) (registers : Registers) (limit : ℕ) (old : List ℕ) where
   -- a walk that is made ends where this holds of the registers of its next step
   abbrev EndedWhere : (Registers → Type 0) → Type 0
-  EndedWhere Here = (frames : List Frame) × WalkMade s stack process registers limit old frames (EndsRefused Here (inForce limit))
+  EndedWhere Here = (frames : List Frame) × WalkMade s stack process registers limit old frames (EndsRefused Here (in_force limit))
 
   -- it has a PC to ask
-  none-covers-asked : EndedWhere (λ last. OnRefusal s stack process last (unfound noFunction)) → EndedWhere (λ last. LookedUp s stack process last (NoneCovers s))
+  none-covers-asked : EndedWhere (λ last. OnRefusal s stack process last (unfound no_function)) → EndedWhere (λ last. LookedUp s stack process last (NoneCovers s))
   none-covers-asked (frames, w) =
       let (less, far, refused) = w.walk.ends in
-      let nowhere = never-nowhere s stack process registers w.walk.follows (length frames) far in
+      let nowhere = never_nowhere s stack process registers w.walk.follows (length frames) far in
       let here = ⊎_elim (λ h. h) (λ h. absurd (nowhere h.asked)) refused in
       (frames, record { opened = w.opened; obeys = w.obeys; walk = record { follows = w.walk.follows; ends = (less, far, here) } })
 
-  asked-refused : EndedWhere (λ last. LookedUp s stack process last (NoneCovers s)) → EndedWhere (λ last. OnRefusal s stack process last (unfound noFunction))
+  asked-refused : EndedWhere (λ last. LookedUp s stack process last (NoneCovers s)) → EndedWhere (λ last. OnRefusal s stack process last (unfound no_function))
   asked-refused (frames, w) =
       let (less, far, none) = w.walk.ends in
       (frames, record { opened = w.opened; obeys = w.obeys; walk = record { follows = w.walk.follows; ends = (less, far, inl none) } })
 
   -- 21 ends a trace exactly when no function covers the PC that its next step asks
-  pub number-21-exactly-when : (endingNumber (traceOf s stack process registers limit old).answer.ending ≡ 21)
+  pub number_21_exactly_when : (ending_number (trace_of s stack process registers limit old).answer.ending ≡ 21)
       ↔ ((frames : List Frame)
-      × WalkMade s stack process registers limit old frames (EndsRefused (λ last. LookedUp s stack process last (NoneCovers s)) (inForce limit)))
-  unfolding numberOfRefusal numberOfUnfound
-  number-21-exactly-when =
-      Iff.trans (trace.refused-exactly-when s stack process registers limit old (unfound noFunction)) (none-covers-asked, asked-refused)
+      × WalkMade s stack process registers limit old frames (EndsRefused (λ last. LookedUp s stack process last (NoneCovers s)) (in_force limit)))
+  unfolding number_of_refusal number_of_unfound
+  number_21_exactly_when =
+      Iff.trans (trace.refused_exactly_when s stack process registers limit old (unfound no_function)) (none-covers-asked, asked-refused)

@@ -1,4 +1,4 @@
--- The cases of a walk, over any step: a walk has these frames and this ending exactly when its case holds (`walk-exactly-when`).
+-- The cases of a walk, over any step: a walk has these frames and this ending exactly when its case holds (`walk_exactly_when`).
 -- Assumes nothing.
 use mathlib.Core.Path.{◌≡◌, refl, sym, ◌∙◌, ap, subst}
 use mathlib.Core.List.{List, [], ◌∷◌}
@@ -9,17 +9,17 @@ use lib.Dec.{eqb}
 use lib.ListN.{length, get_or}
 use borrow.Author.Tests.{eqb-true, eqb-false}
 use Rattle.lookup.proofs.CoveringLaws.{by_value}
-use Rattle.caller.specs.Numbers.{stepNumber}
+use Rattle.caller.specs.Numbers.{step_number}
 use Rattle.caller.specs.declared.registers.Registers.{Registers}
 use Rattle.caller.specs.declared.registers.Step.{Step}
 use Rattle.caller.specs.declared.registers.Step.TheVariants as stepped
-use Rattle.trace.specs.Cases.{noFrame, Follows, NotOutermost, Ends, WalkTo, WalkCase}
+use Rattle.trace.specs.Cases.{no_frame, Follows, NotOutermost, Ends, WalkTo, WalkCase}
 use Rattle.trace.specs.Frames.{frame_of}
-use Rattle.trace.specs.computed.Trace.{Walk, ended, withFrame, walk_of}
+use Rattle.trace.specs.Computed.Trace.{Walk, ended, with_frame, walk_of}
 use Rattle.trace.specs.declared.answer.Ending.{Ending}
 use Rattle.trace.specs.declared.answer.Ending.TheVariants.{Outermost, Full, Refused, Shut, Unsound}
 use Rattle.trace.specs.declared.answer.Frame.{Frame}
-use Rattle.trace.proofs.WalkLaws.{walk-full, walk-no-caller, walk-outermost, walk-on}
+use Rattle.trace.proofs.WalkLaws.{walk_full, walk_no_caller, walk_outermost, walk_on}
 
 -- ---- what a step that is computed yields, and what it is refused with
 
@@ -28,8 +28,8 @@ Yielding step registers caller = step registers ≡ stepped.Caller caller
 
 -- a step that yields no caller, with its number
 pub record RefusedWith (answer : Step) (number : ℕ) : Type 0 where
-  pub no-caller : (caller : Registers) → ¬ (answer ≡ stepped.Caller caller)
-  pub number_is : stepNumber answer ≡ number
+  pub no_caller : (caller : Registers) → ¬ (answer ≡ stepped.Caller caller)
+  pub number_is : step_number answer ≡ number
 
 abbrev pub Refusing : (Registers → Step) → Registers → ℕ → Type 0
 Refusing step registers number = RefusedWith (step registers) number
@@ -41,8 +41,8 @@ abbrev before : Registers → (ℕ → Registers) → ℕ → Registers
 before start at zero = start
 before start at (suc k) = at k
 
-pub none-follows : {Yields : Registers → Registers → Type 0} (start : Registers) → Follows Yields start []
-none-follows start =
+pub none_follows : {Yields : Registers → Registers → Type 0} (start : Registers) → Follows Yields start []
+none_follows start =
     record {
       at = λ k. start;
       starts = refl;
@@ -53,8 +53,8 @@ none-follows start =
 
 module _ (step : Registers → Step) where
   no_frames : (limit : ℕ) (start : Registers) (ending : Ending) → Ends (Refusing step) limit 0 start ending → WalkCase (Yielding step) (Refusing step) limit start [] ending
-  unfolding none-follows
-  no_frames limit start ending ends = record { follows = none-follows start; ends = ends }
+  unfolding none_follows
+  no_frames limit start ending ends = record { follows = none_follows start; ends = ends }
 
   module _ (start caller : Registers) (yields : step start ≡ stepped.Caller caller) where
     frame-first : (frames : List Frame) → Follows (Yielding step) caller frames → (0 < length frames → ¬ (caller.pc ≡ 0))
@@ -72,7 +72,7 @@ module _ (step : Registers → Step) where
         steps zero lt = yields ∙ ap stepped.Caller (sym f.starts)
         steps (suc k) lt = f.steps k (omega arith)
 
-        written : (k : ℕ) → k < suc (length frames) → get_or (frame_of caller ∷ frames) k noFrame ≡ frame_of (f.at k)
+        written : (k : ℕ) → k < suc (length frames) → get_or (frame_of caller ∷ frames) k no_frame ≡ frame_of (f.at k)
         written zero lt = ap frame_of (sym f.starts)
         written (suc k) lt = f.written k (omega arith)
 
@@ -81,9 +81,9 @@ module _ (step : Registers → Step) where
         goes_on (suc k) lt z = f.goes_on k (omega arith) z
 
     only-frame : (limit : ℕ) → 0 < limit → caller.pc ≡ 0 → WalkCase (Yielding step) (Refusing step) limit start (frame_of caller ∷ []) Outermost
-    unfolding frame-first none-follows
+    unfolding frame-first none_follows
     only-frame limit more z =
-        record { follows = frame-first [] (none-follows caller) (λ lt. absurd (omega arith)); ends = (omega arith, omega arith, z) }
+        record { follows = frame-first [] (none_follows caller) (λ lt. absurd (omega arith)); ends = (omega arith, omega arith, z) }
 
     module _ (far : ¬ (caller.pc ≡ 0)) where
       still : (frames : List Frame) (f : Follows (Yielding step) caller frames) → NotOutermost (length frames) (f.at (length frames))
@@ -115,9 +115,9 @@ module _ (step : Registers → Step) where
   ends-within limit count last (Shut number) h = absurd h
   ends-within limit count last (Unsound number index) h = absurd h
 
-  pub case-within : (limit : ℕ) {start : Registers} {frames : List Frame} (ending : Ending) → WalkCase (Yielding step) (Refusing step) limit start frames ending
+  pub case_within : (limit : ℕ) {start : Registers} {frames : List Frame} (ending : Ending) → WalkCase (Yielding step) (Refusing step) limit start frames ending
       → length frames ≤ limit
-  case-within limit {frames = frames} ending w = ends-within limit (length frames) (w.follows.at (length frames)) ending w.ends
+  case_within limit {frames = frames} ending w = ends-within limit (length frames) (w.follows.at (length frames)) ending w.ends
 
   -- ---- the walk has its case
 
@@ -132,42 +132,42 @@ module _ (step : Registers → Step) where
       → Cased (suc left) start (walk_of step (suc left) start)
   unfolding ended
   refused-turn left start answer e other =
-      let refused : RefusedWith (step start) (stepNumber answer) = rw e (record { no-caller = other; number_is = refl }) in
-      case-is (suc left) start (walk-no-caller step (suc left) start (omega arith) answer e other)
-      (no_frames (suc left) start (Refused (stepNumber answer)) (omega arith, (λ lt. absurd (omega arith)), refused))
+      let refused : RefusedWith (step start) (step_number answer) = rw e (record { no_caller = other; number_is = refl }) in
+      case-is (suc left) start (walk_no_caller step (suc left) start (omega arith) answer e other)
+      (no_frames (suc left) start (Refused (step_number answer)) (omega arith, (λ lt. absurd (omega arith)), refused))
 
   case-turn : (left : ℕ) → ((caller : Registers) → Cased left caller (walk_of step left caller)) → (start : Registers) (answer : Step)
       → step start ≡ answer → Cased (suc left) start (walk_of step (suc left) start)
-  unfolding ended withFrame
+  unfolding ended with_frame
   case-turn left rest start (stepped.Caller caller) e =
       by_value (eqb caller.pc 0)
       (λ is.
       let z : caller.pc ≡ 0 = eqb-true caller.pc 0 is in
-      case-is (suc left) start (walk-outermost step (suc left) start (omega arith) caller e z) (only-frame start caller e (suc left) (omega arith) z))
+      case-is (suc left) start (walk_outermost step (suc left) start (omega arith) caller e z) (only-frame start caller e (suc left) (omega arith) z))
       (λ is.
       let far : ¬ (caller.pc ≡ 0) = eqb-false caller.pc 0 is in
       let same : suc left - 1 ≡ left = omega arith in
       case-is (suc left) start
-      (rw same at (walk-on step (suc left) start (omega arith) caller e far))
+      (rw same at (walk_on step (suc left) start (omega arith) caller e far))
       (one_more start caller e far left (walk_of step left caller).frames (walk_of step left caller).ending (rest caller)))
   case-turn left rest start (stepped.Unsound old number index) e =
       refused-turn left start (stepped.Unsound old number index) e (λ caller is. let z : ◌≡◌ {A = ℕ} 0 1 = cc in omega arith)
   case-turn left rest start (stepped.Refused old number) e =
       refused-turn left start (stepped.Refused old number) e (λ caller is. let z : ◌≡◌ {A = ℕ} 0 1 = cc in omega arith)
 
-  pub walk-case : (limit : ℕ) (start : Registers) → Cased limit start (walk_of step limit start)
+  pub walk_case : (limit : ℕ) (start : Registers) → Cased limit start (walk_of step limit start)
   unfolding walk_of ended
-  walk-case zero start = no_frames 0 start Full (refl, λ lt. absurd (omega arith))
-  walk-case (suc left) start = case-turn left (walk-case left) start (step start) refl
+  walk_case zero start = no_frames 0 start Full (refl, λ lt. absurd (omega arith))
+  walk_case (suc left) start = case-turn left (walk_case left) start (step start) refl
 
   -- ---- and a case makes the walk
 
   none_walk : (limit : ℕ) (start : Registers) (ending : Ending) → WalkCase (Yielding step) (Refusing step) limit start [] ending → walk_of step limit start ≡ ended ending
   none_walk limit start Outermost w = absurd (omega (arith, w.ends.0))
-  none_walk limit start Full w = ap (λ n. walk_of step n start) (sym w.ends.0) ∙ walk-full step start
+  none_walk limit start Full w = ap (λ n. walk_of step n start) (sym w.ends.0) ∙ walk_full step start
   none_walk limit start (Refused number) w =
       let refused : RefusedWith (step start) number = rw w.follows.starts at w.ends.2 in
-      walk-no-caller step limit start w.ends.0 (step start) refl refused.no-caller ∙ ap (λ n. ended (Refused n)) refused.number_is
+      walk_no_caller step limit start w.ends.0 (step start) refl refused.no_caller ∙ ap (λ n. ended (Refused n)) refused.number_is
   none_walk limit start (Shut number) w = absurd w.ends
   none_walk limit start (Unsound number index) w = absurd w.ends
 
@@ -182,8 +182,8 @@ module _ (step : Registers → Step) where
 
     -- RA 0 stands in the last frame
     at_zero : (frames : List Frame) (ending : Ending) (w : WalkCase (Yielding step) (Refusing step) limit start (frame ∷ frames) ending) → (w.follows.at 1).pc ≡ 0
-        → ◌≡◌ {A = Walk} (record { frames = frame ∷ frames; ending = ending }) (withFrame frame (ended Outermost))
-    unfolding withFrame ended
+        → ◌≡◌ {A = Walk} (record { frames = frame ∷ frames; ending = ending }) (with_frame frame (ended Outermost))
+    unfolding with_frame ended
     at_zero [] Outermost w z = refl
     at_zero [] Full w z = absurd (w.ends.1 (omega arith) z)
     at_zero [] (Refused number) w z = absurd (w.ends.1 (omega arith) z)
@@ -215,11 +215,11 @@ module _ (step : Registers → Step) where
         by fs (Shut number) f far h = h
         by fs (Unsound number index) f far h = h
 
-  pub case-walk : (limit : ℕ) (start : Registers) (frames : List Frame) (ending : Ending) → WalkCase (Yielding step) (Refusing step) limit start frames ending
+  pub case_walk : (limit : ℕ) (start : Registers) (frames : List Frame) (ending : Ending) → WalkCase (Yielding step) (Refusing step) limit start frames ending
       → walk_of step limit start ≡ record { frames = frames; ending = ending }
-  unfolding ended withFrame
-  case-walk limit start [] ending w = none_walk limit start ending w
-  case-walk limit start (frame ∷ frames) ending w =
+  unfolding ended with_frame
+  case_walk limit start [] ending w = none_walk limit start ending w
+  case_walk limit start (frame ∷ frames) ending w =
       let caller = w.follows.at 1 in
       let more : 0 < limit = some_left limit start frame frames ending w in
       let yields : step start ≡ stepped.Caller caller = ap step (sym w.follows.starts) ∙ w.follows.steps 0 (omega arith) in
@@ -227,27 +227,27 @@ module _ (step : Registers → Step) where
       by_value (eqb caller.pc 0)
       (λ e.
       let z : caller.pc ≡ 0 = eqb-true caller.pc 0 e in
-      walk-outermost step limit start more caller yields z
-      ∙ ap (λ f. withFrame f (ended Outermost)) (sym is)
+      walk_outermost step limit start more caller yields z
+      ∙ ap (λ f. with_frame f (ended Outermost)) (sym is)
       ∙ sym (at_zero limit start frame frames ending w z))
       (λ e.
       let far : ¬ (caller.pc ≡ 0) = eqb-false caller.pc 0 e in
-      walk-on step limit start more caller yields far
-      ∙ ap (λ f. withFrame f (walk_of step (limit - 1) caller)) (sym is)
-      ∙ ap (withFrame frame) (case-walk (limit - 1) caller frames ending (rest-case limit start frame frames ending w far)))
+      walk_on step limit start more caller yields far
+      ∙ ap (λ f. with_frame f (walk_of step (limit - 1) caller)) (sym is)
+      ∙ ap (with_frame frame) (case_walk (limit - 1) caller frames ending (rest-case limit start frame frames ending w far)))
 
-  pub walk-exactly-when : (limit : ℕ) (start : Registers) (frames : List Frame) (ending : Ending)
+  pub walk_exactly_when : (limit : ℕ) (start : Registers) (frames : List Frame) (ending : Ending)
       → (walk_of step limit start ≡ record { frames = frames; ending = ending }) ↔ WalkCase (Yielding step) (Refusing step) limit start frames ending
-  walk-exactly-when limit start frames ending = (
-    λ e. subst (Cased limit start) e (walk-case limit start),
-    case-walk limit start frames ending,
+  walk_exactly_when limit start frames ending = (
+    λ e. subst (Cased limit start) e (walk_case limit start),
+    case_walk limit start frames ending,
   )
 
 -- ---- the same walk by other words for a step
 
 module _ {Yields Others : Registers → Registers → Type 0} (yields : (registers caller : Registers) → Yields registers caller → Others registers caller) where
-  pub follows-through : {start : Registers} {frames : List Frame} → Follows Yields start frames → Follows Others start frames
-  follows-through f =
+  pub follows_through : {start : Registers} {frames : List Frame} → Follows Yields start frames → Follows Others start frames
+  follows_through f =
       record {
         at = f.at;
         starts = f.starts;
@@ -260,8 +260,8 @@ module _ {Yields Others : Registers → Registers → Type 0} (yields : (registe
       → ((count : ℕ) (last : Registers) → Holds count last → Also count last)
       → WalkTo Yields start frames Holds
       → WalkTo Others start frames Also
-  unfolding follows-through
-  walk_through holds w = record { follows = follows-through w.follows; ends = holds _ _ w.ends }
+  unfolding follows_through
+  walk_through holds w = record { follows = follows_through w.follows; ends = holds _ _ w.ends }
 
 pub ends_through : {Refuses Others : Registers → ℕ → Type 0} → ((registers : Registers) (number : ℕ) → Refuses registers number → Others registers number)
     → (limit : ℕ) (ending : Ending) (count : ℕ) (last : Registers) → Ends Refuses limit count last ending → Ends Others limit count last ending

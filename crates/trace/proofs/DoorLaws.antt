@@ -10,82 +10,82 @@ use Prim.Native.Nat.{ℕ, ◌+◌, ◌*◌, ◌^◌, ◌≤◌, ◌<◌}
 use native.Mathlib.Omega.{arith}
 use lib.Dec.{eqb, ltb}
 use lib.ListN.{length}
-use Rattle.numbers.specs.computed.Address.{windowFits}
-use Rattle.accept.specs.computed.Checks.{firstBad, verdict}
+use Rattle.numbers.specs.Computed.Address.{window_fits}
+use Rattle.accept.specs.Computed.Checks.{first_bad, verdict}
 use Rattle.accept.specs.declared.verdict.Fault.{Fault}
 use Rattle.accept.specs.declared.verdict.Fault.TheVariants.{Sound, Breaks}
 use Rattle.accept.specs.declared.verdict.Verdict.{Verdict}
 use Rattle.accept.specs.declared.verdict.Verdict.TheVariants as verdict
-use Rattle.accept.proofs.Decides.{not-below, at_most, unless}
-use Rattle.accept.proofs.FaultLaws.{Table, end, line, FirstBroken, table-sound, table-breaks}
+use Rattle.accept.proofs.Decides.{not_below, at_most, unless}
+use Rattle.accept.proofs.FaultLaws.{Table, end, line, FirstBroken, table_sound, table_breaks}
 use Rattle.lookup.proofs.CoveringLaws.{by_value}
 use Rattle.caller.specs.Cases.{Rule41}
-use Rattle.caller.specs.Numbers.{numberOfStepCause}
+use Rattle.caller.specs.Numbers.{number_of_step_cause}
 use Rattle.caller.specs.declared.registers.Registers.{Registers}
 use Rattle.caller.specs.declared.registers.Process.{Process}
 use Rattle.trace.specs.Cases.{LimitAbove, TooFewWords, AtDoor, DoorOpen}
-use Rattle.trace.specs.Frames.{inForce, withMark, allWords, over, tracedAs}
-use Rattle.trace.specs.Numbers.{numberOfTraceCause}
-use Rattle.trace.specs.computed.Trace.{ended, checkedWalk, doorTests, doorFault, afterDoor, walkAfter, walkIn, traced, traceOf}
+use Rattle.trace.specs.Frames.{in_force, with_mark, all_words, over, traced_as}
+use Rattle.trace.specs.Numbers.{number_of_trace_cause}
+use Rattle.trace.specs.Computed.Trace.{ended, checked_walk, door_tests, door_fault, after_door, walk_after, walk_in, traced, trace_of}
 use Rattle.trace.specs.declared.answer.Ending.TheVariants.{Shut, Unsound}
 
 -- ---- the limit in force
 
-pub in-force-small : (limit : ℕ) → limit ≤ 256 → inForce limit ≤ 256
-unfolding inForce
-in-force-small limit small =
-    by_value (eqb limit 0) (λ e. rw (e, inForce) (omega arith)) (λ e. rw (e, inForce) small)
+pub in_force_small : (limit : ℕ) → limit ≤ 256 → in_force limit ≤ 256
+unfolding in_force
+in_force_small limit small =
+    by_value (eqb limit 0) (λ e. rw (e, in_force) (omega arith)) (λ e. rw (e, in_force) small)
 
 -- 42 can be told from it as well
-pub in-force-above : (limit : ℕ) → ltb 256 limit ≡ ltb 256 (inForce limit)
-unfolding inForce
-in-force-above limit =
-    by_value (eqb limit 0) (λ e. ap (λ l. ltb 256 l) (eqb-true limit 0 e) ∙ rw (e, inForce) refl) (λ e. rw (e, inForce) refl)
+pub in_force_above : (limit : ℕ) → ltb 256 limit ≡ ltb 256 (in_force limit)
+unfolding in_force
+in_force_above limit =
+    by_value (eqb limit 0) (λ e. ap (λ l. ltb 256 l) (eqb-true limit 0 e) ∙ rw (e, in_force) refl) (λ e. rw (e, in_force) refl)
 
 -- ---- the door, test by test
 
 module _ (stack : List ℕ) (process : Process) (limit words : ℕ) where
-  pub door-window : windowFits stack process.stack ≡ false → Breaks 41 ≡ doorFault stack process limit words
-  unfolding doorFault doorTests firstBad
-  door-window out = rw (out, firstBad)
+  pub door_window : window_fits stack process.stack ≡ false → Breaks 41 ≡ door_fault stack process limit words
+  unfolding door_fault door_tests first_bad
+  door_window out = rw (out, first_bad)
 
-  module _ (fits : windowFits stack process.stack ≡ true) where
-    pub door-limit : 256 < limit → Breaks 42 ≡ doorFault stack process limit words
-    unfolding doorFault doorTests firstBad
-    door-limit high = rw (fits, firstBad) (rw (lt-ltb 256 limit high))
+  module _ (fits : window_fits stack process.stack ≡ true) where
+    pub door_limit : 256 < limit → Breaks 42 ≡ door_fault stack process limit words
+    unfolding door_fault door_tests first_bad
+    door_limit high = rw (fits, first_bad) (rw (lt-ltb 256 limit high))
 
     module _ (allowed : limit ≤ 256) where
-      pub door-words : words < 3 * inForce limit → Breaks 43 ≡ doorFault stack process limit words
-      unfolding doorFault doorTests firstBad
-      door-words few = rw (fits, firstBad) (rw (le-ltb 256 limit allowed, firstBad) (rw (lt-ltb words (3 * inForce limit) few)))
+      pub door_words : words < 3 * in_force limit → Breaks 43 ≡ door_fault stack process limit words
+      unfolding door_fault door_tests first_bad
+      door_words few = rw (fits, first_bad) (rw (le-ltb 256 limit allowed, first_bad) (rw (lt-ltb words (3 * in_force limit) few)))
 
-      pub door-open : 3 * inForce limit ≤ words → Sound ≡ doorFault stack process limit words
-      unfolding doorFault doorTests firstBad
-      door-open enough = rw (fits, firstBad) (rw (le-ltb 256 limit allowed, firstBad) (rw (le-ltb words (3 * inForce limit) enough)))
+      pub door_open : 3 * in_force limit ≤ words → Sound ≡ door_fault stack process limit words
+      unfolding door_fault door_tests first_bad
+      door_open enough = rw (fits, first_bad) (rw (le-ltb 256 limit allowed, first_bad) (rw (le-ltb words (3 * in_force limit) enough)))
 
 -- ---- the door, by its rules
 
 module _ (stack : List ℕ) (process : Process) (limit : ℕ) (buffer : List ℕ) where
   abbrev tests : List (Bool × ℕ)
-  tests = doorTests stack process limit (length buffer)
+  tests = door_tests stack process limit (length buffer)
 
   abbrev rules : List (Type 0)
-  rules = (process.stack + length stack ≤ 2 ^ 64) ∷ (limit ≤ 256) ∷ (3 * inForce limit ≤ length buffer) ∷ []
+  rules = (process.stack + length stack ≤ 2 ^ 64) ∷ (limit ≤ 256) ∷ (3 * in_force limit ≤ length buffer) ∷ []
 
   door-table : Table tests rules
-  unfolding doorTests windowFits
-  door-table = line (unless (at_most _ _)) (line (not-below _ _) (line (not-below _ _) end))
+  unfolding door_tests window_fits
+  door-table = line (unless (at_most _ _)) (line (not_below _ _) (line (not_below _ _) end))
 
-  door-opens : (doorFault stack process limit (length buffer) ≡ Sound) ↔ DoorOpen stack process limit buffer
-  unfolding doorFault
+  door-opens : (door_fault stack process limit (length buffer) ≡ Sound) ↔ DoorOpen stack process limit buffer
+  unfolding door_fault
   door-opens =
-      Iff.trans (table-sound door-table) (
-        λ h. record { in-memory = omega arith; allowed = omega arith; room = omega arith },
+      Iff.trans (table_sound door-table) (
+        λ h. record { in_memory_lem = omega arith; allowed = omega arith; room = omega arith },
         λ h. (omega arith, (omega arith, (omega arith, tt))),
       )
 
   broken-at : (number : ℕ) → FirstBroken tests rules number ↔ AtDoor stack process limit buffer number
-  unfolding doorTests numberOfTraceCause numberOfStepCause
+  unfolding door_tests number_of_trace_cause number_of_step_cause
   broken-at number = (
     ⊎_elim
         (λ h. inl (h.0, omega arith))
@@ -99,40 +99,40 @@ module _ (stack : List ℕ) (process : Process) (limit : ℕ) (buffer : List ℕ
         (⊎_elim (λ h. inr (omega arith, inl (h.0, omega arith))) (λ h. inr (omega arith, inr (omega arith, inl (h.0, omega arith))))),
   )
 
-  door-shuts : (number : ℕ) → (doorFault stack process limit (length buffer) ≡ Breaks number) ↔ AtDoor stack process limit buffer number
-  unfolding doorFault
-  door-shuts number = Iff.trans (table-breaks door-table number) (broken-at number)
+  door-shuts : (number : ℕ) → (door_fault stack process limit (length buffer) ≡ Breaks number) ↔ AtDoor stack process limit buffer number
+  unfolding door_fault
+  door-shuts number = Iff.trans (table_breaks door-table number) (broken-at number)
 
   -- one number at a time
-  pub door-41 : AtDoor stack process limit buffer 41 ↔ Rule41 stack process
-  unfolding numberOfTraceCause numberOfStepCause
-  door-41 = (⊎_elim (λ h. h.1) (⊎_elim (λ h. absurd (omega arith)) (λ h. absurd (omega arith))), λ h. inl (refl, h))
+  pub door_41 : AtDoor stack process limit buffer 41 ↔ Rule41 stack process
+  unfolding number_of_trace_cause number_of_step_cause
+  door_41 = (⊎_elim (λ h. h.1) (⊎_elim (λ h. absurd (omega arith)) (λ h. absurd (omega arith))), λ h. inl (refl, h))
 
-  pub door-42 : AtDoor stack process limit buffer 42 ↔ ((¬ Rule41 stack process) × LimitAbove limit)
-  unfolding numberOfTraceCause numberOfStepCause
-  door-42 = (
+  pub door_42 : AtDoor stack process limit buffer 42 ↔ ((¬ Rule41 stack process) × LimitAbove limit)
+  unfolding number_of_trace_cause number_of_step_cause
+  door_42 = (
     ⊎_elim (λ h. absurd (omega arith)) (⊎_elim (λ h. (h.1, h.2)) (λ h. absurd (omega arith))),
     λ h. inr (inl (refl, h.0, h.1)),
   )
 
-  pub door-43 : AtDoor stack process limit buffer 43 ↔ ((¬ Rule41 stack process) × (¬ LimitAbove limit) × TooFewWords limit buffer)
-  unfolding numberOfTraceCause numberOfStepCause
-  door-43 = (
+  pub door_43 : AtDoor stack process limit buffer 43 ↔ ((¬ Rule41 stack process) × (¬ LimitAbove limit) × TooFewWords limit buffer)
+  unfolding number_of_trace_cause number_of_step_cause
+  door_43 = (
     ⊎_elim (λ h. absurd (omega arith)) (⊎_elim (λ h. absurd (omega arith)) (λ h. (h.1, h.2, h.3))),
     λ h. inr (inr (refl, h.0, h.1, h.2)),
   )
 
-  pub door-number : (number : ℕ) → AtDoor stack process limit buffer number → (41 ≤ number) × (number ≤ 43)
-  unfolding numberOfTraceCause numberOfStepCause
-  door-number number = ⊎_elim (λ h. omega arith) (⊎_elim (λ h. omega arith) (λ h. omega arith))
+  pub door_number : (number : ℕ) → AtDoor stack process limit buffer number → (41 ≤ number) × (number ≤ 43)
+  unfolding number_of_trace_cause number_of_step_cause
+  door_number number = ⊎_elim (λ h. omega arith) (⊎_elim (λ h. omega arith) (λ h. omega arith))
 
-  pub not-open : (number : ℕ) → AtDoor stack process limit buffer number → ¬ DoorOpen stack process limit buffer
-  not-open number at opened =
-      ⊎_elim (λ h. opened.in-memory h.1) (⊎_elim (λ h. opened.allowed h.2) (λ h. opened.room h.3)) at
+  pub not_open : (number : ℕ) → AtDoor stack process limit buffer number → ¬ DoorOpen stack process limit buffer
+  not_open number at opened =
+      ⊎_elim (λ h. opened.in_memory_lem h.1) (⊎_elim (λ h. opened.allowed h.2) (λ h. opened.room h.3)) at
 
   -- what a walk may rely on where nothing was refused
-  pub door-allows : doorFault stack process limit (length buffer) ≡ Sound → (limit ≤ 256) × (3 * inForce limit ≤ length buffer)
-  door-allows open-door = let opened = door-opens.0 open-door in (omega (arith, opened.allowed), omega (arith, opened.room))
+  pub door_allows : door_fault stack process limit (length buffer) ≡ Sound → (limit ≤ 256) × (3 * in_force limit ≤ length buffer)
+  door_allows open-door = let opened = door-opens.0 open-door in (omega (arith, opened.allowed), omega (arith, opened.room))
 
   -- the three ways
   pub data Way (s : List ℕ) : Type 0 where
@@ -144,62 +144,62 @@ module _ (stack : List ℕ) (process : Process) (limit : ℕ) (buffer : List ℕ
   way_in s opened verdict.Accepted e = sound opened e
   way_in s opened (verdict.Refused number index) e = unsound-way opened number index e
 
-  way_by : (s : List ℕ) (fault : Fault) → doorFault stack process limit (length buffer) ≡ fault → Way s
+  way_by : (s : List ℕ) (fault : Fault) → door_fault stack process limit (length buffer) ≡ fault → Way s
   way_by s Sound e = way_in s (door-opens.0 e) (verdict s) refl
   way_by s (Breaks number) e = shut number ((door-shuts number).0 e)
 
   pub way : (s : List ℕ) → Way s
-  way s = way_by s (doorFault stack process limit (length buffer)) refl
+  way s = way_by s (door_fault stack process limit (length buffer)) refl
 
 -- ---- what comes of it
 
 module _ (s stack : List ℕ) (process : Process) (registers : Registers) (limit : ℕ) (buffer : List ℕ) where
-  refused-walk : {number : ℕ} → doorFault stack process limit (length buffer) ≡ Breaks number
-      → walkIn s stack process registers limit (length buffer) ≡ ended (Shut number)
-  unfolding walkIn afterDoor
+  refused-walk : {number : ℕ} → door_fault stack process limit (length buffer) ≡ Breaks number
+      → walk_in s stack process registers limit (length buffer) ≡ ended (Shut number)
+  unfolding walk_in after_door
   refused-walk broken = rw broken
 
-  pub shut-walk : (number : ℕ) → AtDoor stack process limit buffer number
-      → walkIn s stack process registers limit (length buffer) ≡ ended (Shut number)
-  shut-walk number at = refused-walk ((door-shuts stack process limit buffer number).1 at)
+  pub shut_walk : (number : ℕ) → AtDoor stack process limit buffer number
+      → walk_in s stack process registers limit (length buffer) ≡ ended (Shut number)
+  shut_walk number at = refused-walk ((door-shuts stack process limit buffer number).1 at)
 
   -- the same as the code answers it, with the buffer as it was
-  pub refused-at-door : {number : ℕ} → doorFault stack process limit (length buffer) ≡ Breaks number
-      → tracedAs (record { ending = Shut number; frames = 0 }) buffer ≡ traceOf s stack process registers limit buffer
-  unfolding traceOf traced ended allWords over
-  refused-at-door broken = ap (λ w. traced w buffer) (sym (refused-walk broken))
+  pub refused_at_door : {number : ℕ} → door_fault stack process limit (length buffer) ≡ Breaks number
+      → traced_as (record { ending = Shut number; frames = 0 }) buffer ≡ trace_of s stack process registers limit buffer
+  unfolding trace_of traced ended all_words over
+  refused_at_door broken = ap (λ w. traced w buffer) (sym (refused-walk broken))
 
-  module _ (open-door : doorFault stack process limit (length buffer) ≡ Sound) where
-    past-door : walkIn s stack process registers limit (length buffer)
-        ≡ walkAfter (verdict s) (checkedWalk s stack process (inForce limit) (withMark registers))
-    unfolding walkIn afterDoor
+  module _ (open-door : door_fault stack process limit (length buffer) ≡ Sound) where
+    past-door : walk_in s stack process registers limit (length buffer)
+        ≡ walk_after (verdict s) (checked_walk s stack process (in_force limit) (with_mark registers))
+    unfolding walk_in after_door
     past-door = rw open-door
 
     refused-section : {number index : ℕ} → verdict s ≡ verdict.Refused number index
-        → walkIn s stack process registers limit (length buffer) ≡ ended (Unsound number index)
-    unfolding walkAfter
+        → walk_in s stack process registers limit (length buffer) ≡ ended (Unsound number index)
+    unfolding walk_after
     refused-section bad = past-door ∙ rw bad
 
     accepted-section : verdict s ≡ verdict.Accepted
-        → walkIn s stack process registers limit (length buffer) ≡ checkedWalk s stack process (inForce limit) (withMark registers)
-    unfolding walkAfter
+        → walk_in s stack process registers limit (length buffer) ≡ checked_walk s stack process (in_force limit) (with_mark registers)
+    unfolding walk_after
     accepted-section good = past-door ∙ rw good
 
-    pub refused-by-section : {number index : ℕ} → verdict s ≡ verdict.Refused number index
-        → tracedAs (record { ending = Unsound number index; frames = 0 }) buffer ≡ traceOf s stack process registers limit buffer
-    unfolding traceOf traced ended allWords over
-    refused-by-section bad = ap (λ w. traced w buffer) (sym (refused-section bad))
+    pub refused_by_section : {number index : ℕ} → verdict s ≡ verdict.Refused number index
+        → traced_as (record { ending = Unsound number index; frames = 0 }) buffer ≡ trace_of s stack process registers limit buffer
+    unfolding trace_of traced ended all_words over
+    refused_by_section bad = ap (λ w. traced w buffer) (sym (refused-section bad))
 
     pub walked : verdict s ≡ verdict.Accepted
-        → traced (checkedWalk s stack process (inForce limit) (withMark registers)) buffer ≡ traceOf s stack process registers limit buffer
-    unfolding traceOf
+        → traced (checked_walk s stack process (in_force limit) (with_mark registers)) buffer ≡ trace_of s stack process registers limit buffer
+    unfolding trace_of
     walked good = ap (λ w. traced w buffer) (sym (accepted-section good))
 
   module _ (opened : DoorOpen stack process limit buffer) where
-    pub unsound-walk : (number index : ℕ) → verdict s ≡ verdict.Refused number index
-        → walkIn s stack process registers limit (length buffer) ≡ ended (Unsound number index)
-    unsound-walk number index bad = refused-section ((door-opens stack process limit buffer).1 opened) bad
+    pub unsound_walk : (number index : ℕ) → verdict s ≡ verdict.Refused number index
+        → walk_in s stack process registers limit (length buffer) ≡ ended (Unsound number index)
+    unsound_walk number index bad = refused-section ((door-opens stack process limit buffer).1 opened) bad
 
-    pub open-walk : verdict s ≡ verdict.Accepted
-        → walkIn s stack process registers limit (length buffer) ≡ checkedWalk s stack process (inForce limit) (withMark registers)
-    open-walk good = accepted-section ((door-opens stack process limit buffer).1 opened) good
+    pub open_walk : verdict s ≡ verdict.Accepted
+        → walk_in s stack process registers limit (length buffer) ≡ checked_walk s stack process (in_force limit) (with_mark registers)
+    open_walk good = accepted-section ((door-opens stack process limit buffer).1 opened) good

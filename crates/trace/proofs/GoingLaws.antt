@@ -5,21 +5,21 @@ use mathlib.Core.List.{List}
 use Prim.Native.Nat.{ℕ, ◌+◌, ◌*◌, ◌-◌, ◌≤◌, ◌<◌}
 use native.Mathlib.Omega.{arith}
 use lib.ListN.{length}
-use Rattle.caller.specs.Numbers.{stepNumber}
+use Rattle.caller.specs.Numbers.{step_number}
 use Rattle.caller.specs.declared.registers.Registers.{Registers}
 use Rattle.caller.specs.declared.registers.Step.{Step}
 use Rattle.caller.specs.declared.registers.Step.TheVariants as stepped
-use Rattle.trace.specs.Frames.{frame_of, words_of, tracedAs}
-use Rattle.trace.specs.computed.Trace.{ended, walk_of, traced}
-use Rattle.trace.specs.inner.Writing.{next_from, put}
+use Rattle.trace.specs.Frames.{frame_of, words_of, traced_as}
+use Rattle.trace.specs.Computed.Trace.{ended, walk_of, traced}
+use Rattle.trace.specs.Inner.Writing.{next_from, put}
 use Rattle.trace.specs.declared.answer.Ending.TheVariants.{Outermost, Full, Refused}
-use Rattle.trace.proofs.BufferLaws.{put-length}
-use Rattle.trace.proofs.WalkLaws.{tracedFrom, begins, ends, writes-next, walk-no-caller, walk-outermost, walk-on, walk-full}
+use Rattle.trace.proofs.BufferLaws.{put_length}
+use Rattle.trace.proofs.WalkLaws.{traced_from, begins, ends, writes_next, walk_no_caller, walk_outermost, walk_on, walk_full}
 
 -- a caller goes on as it is
-pub next-same : (caller last : Registers) → caller.first ≡ 0 → caller.lr ≡ last.lr → next_from caller last ≡ caller
+pub next_same : (caller last : Registers) → caller.first ≡ 0 → caller.lr ≡ last.lr → next_from caller last ≡ caller
 unfolding next_from
-next-same caller last none kept = same last.lr 0 kept none
+next_same caller last none kept = same last.lr 0 kept none
   where
     same : (lr first : ℕ) → caller.lr ≡ lr → caller.first ≡ first
         → ◌≡◌ {A = Registers} (record { pc = caller.pc; sp = caller.sp; fp = caller.fp; lr = lr; first = first }) caller
@@ -29,53 +29,53 @@ next-same caller last none kept = same last.lr 0 kept none
 pub record Going (step : Registers → Step) (limit : ℕ) (start : Registers) (old b : List ℕ) (current : Registers) (frames left : ℕ) : Type 0 where
   pub counted : frames + left ≡ limit
   pub same : length b ≡ length old
-  pub leads : tracedFrom frames (walk_of step left current) b ≡ traced (walk_of step limit start) old
+  pub leads : traced_from frames (walk_of step left current) b ≡ traced (walk_of step limit start) old
 
 module _ {step : Registers → Step} {limit : ℕ} {start : Registers} {old : List ℕ} where
-  pub going-begins : Going step limit start old old start 0 limit
-  going-begins = record { counted = omega arith; same = refl; leads = begins _ _ }
+  pub going_begins : Going step limit start old old start 0 limit
+  going_begins = record { counted = omega arith; same = refl; leads = begins _ _ }
 
   module _ {b : List ℕ} {current : Registers} {frames left : ℕ} (going : Going step limit start old b current frames left) where
-    pub going-full : left ≡ 0 → tracedAs (record { ending = Full; frames = frames }) b ≡ traced (walk_of step limit start) old
-    going-full none =
-        sym (ends frames Full b) ∙ ap (λ w. tracedFrom frames w b) (sym (ap (λ n. walk_of step n current) none ∙ walk-full step current)) ∙ going.leads
+    pub going_full : left ≡ 0 → traced_as (record { ending = Full; frames = frames }) b ≡ traced (walk_of step limit start) old
+    going_full none =
+        sym (ends frames Full b) ∙ ap (λ w. traced_from frames w b) (sym (ap (λ n. walk_of step n current) none ∙ walk_full step current)) ∙ going.leads
 
     module _ (more : 0 < left) where
       -- "A refused step ends it with its own number"
-      pub going-refused : (o : Step) → step current ≡ o → ((caller : Registers) → ¬ (o ≡ stepped.Caller caller))
-          → tracedAs (record { ending = Refused (stepNumber o); frames = frames }) b ≡ traced (walk_of step limit start) old
-      going-refused o e never =
-          sym (ends frames (Refused (stepNumber o)) b) ∙ ap (λ w. tracedFrom frames w b) (sym (walk-no-caller step left current more o e never)) ∙ going.leads
+      pub going_refused : (o : Step) → step current ≡ o → ((caller : Registers) → ¬ (o ≡ stepped.Caller caller))
+          → traced_as (record { ending = Refused (step_number o); frames = frames }) b ≡ traced (walk_of step limit start) old
+      going_refused o e never =
+          sym (ends frames (Refused (step_number o)) b) ∙ ap (λ w. traced_from frames w b) (sym (walk_no_caller step left current more o e never)) ∙ going.leads
 
       module _ (room : 3 * limit ≤ length old) where
         -- there is room for one more frame
-        pub going-fits : 3 * frames + 3 ≤ length b
-        going-fits = omega (arith, going.counted, going.same)
+        pub going_fits : 3 * frames + 3 ≤ length b
+        going_fits = omega (arith, going.counted, going.same)
 
         module _ {caller : Registers} (yields : step current ≡ stepped.Caller caller) where
           abbrev written : List ℕ
           written = put b (3 * frames) (words_of (frame_of caller))
 
-          pub going-same : length written ≡ length old
+          pub going_same : length written ≡ length old
           unfolding words_of
-          going-same = put-length b (3 * frames) (words_of (frame_of caller)) going-fits ∙ going.same
+          going_same = put_length b (3 * frames) (words_of (frame_of caller)) going_fits ∙ going.same
 
           -- "RA 0 ends it with 30"
-          pub going-outermost : caller.pc ≡ 0
-              → tracedAs (record { ending = Outermost; frames = frames + 1 }) written ≡ traced (walk_of step limit start) old
-          going-outermost zero =
+          pub going_outermost : caller.pc ≡ 0
+              → traced_as (record { ending = Outermost; frames = frames + 1 }) written ≡ traced (walk_of step limit start) old
+          going_outermost zero =
               sym (ends (frames + 1) Outermost written)
-              ∙ writes-next frames (frame_of caller) (ended Outermost) b going-fits
-              ∙ ap (λ w. tracedFrom frames w b) (sym (walk-outermost step left current more caller yields zero))
+              ∙ writes_next frames (frame_of caller) (ended Outermost) b going_fits
+              ∙ ap (λ w. traced_from frames w b) (sym (walk_outermost step left current more caller yields zero))
               ∙ going.leads
 
           pub going_on : ¬ (caller.pc ≡ 0) → Going step limit start old written caller (frames + 1) (left - 1)
           going_on far =
               record {
                 counted = omega (arith, going.counted);
-                same = going-same;
+                same = going_same;
                 leads =
-                    writes-next frames (frame_of caller) (walk_of step (left - 1) caller) b going-fits
-                    ∙ ap (λ w. tracedFrom frames w b) (sym (walk-on step left current more caller yields far))
+                    writes_next frames (frame_of caller) (walk_of step (left - 1) caller) b going_fits
+                    ∙ ap (λ w. traced_from frames w b) (sym (walk_on step left current more caller yields far))
                     ∙ going.leads;
               }

@@ -1,4 +1,4 @@
--- The numbers of a trace: no two causes have one (`trace-distinct`).
+-- The numbers of a trace: no two causes have one (`trace_distinct`).
 -- Assumes nothing.
 use mathlib.Core.Path.{◌≡◌, refl, sym, ◌∙◌, ap}
 use mathlib.Core.List.{List, [], ◌∷◌}
@@ -7,10 +7,10 @@ use native.Mathlib.Omega.{arith}
 use lib.ListN.{get_or}
 use Rattle.accept.specs.Given.{Rule}
 use Rattle.accept.proofs.CauseLaws.{Distinct}
-use Rattle.accept.proofs.Exactly.{number-of-rule, by_number}
-use Rattle.caller.specs.Numbers.{Refusal, numberOfStepCause}
-use Rattle.caller.proofs.NumberLaws.{number-of-refusal, same-refusal}
-use Rattle.trace.specs.Numbers.{TraceCause, window, limitAbove, tooFewWords, unsound, refused, outermost, full, numberOfTraceCause}
+use Rattle.accept.proofs.Exactly.{number_of_rule_lem, by_number}
+use Rattle.caller.specs.Numbers.{Refusal, number_of_step_cause}
+use Rattle.caller.proofs.NumberLaws.{number_of_refusal_lem, same_refusal}
+use Rattle.trace.specs.Numbers.{TraceCause, window, limitAbove, tooFewWords, unsound, refused, outermost, full, number_of_trace_cause}
 
 -- the causes that are neither a rule nor a step's own, from 30 on; where a number has none, the one before it is repeated
 others : List TraceCause
@@ -23,45 +23,45 @@ other_of number = get_or others (number - 30) window
 data AtItsNumber (cause : TraceCause) : Type 0 where
   of-section : (rule : Rule) → cause ≡ unsound rule → AtItsNumber cause
   of-step : (refusal : Refusal) → cause ≡ refused refusal → AtItsNumber cause
-  of-trace : 30 ≤ numberOfTraceCause cause → other_of (numberOfTraceCause cause) ≡ cause → AtItsNumber cause
+  of-trace : 30 ≤ number_of_trace_cause cause → other_of (number_of_trace_cause cause) ≡ cause → AtItsNumber cause
 
-at-its-number : (cause : TraceCause) → AtItsNumber cause
-unfolding other_of numberOfTraceCause numberOfStepCause
-at-its-number window = of-trace (omega arith) refl
-at-its-number limitAbove = of-trace (omega arith) refl
-at-its-number tooFewWords = of-trace (omega arith) refl
-at-its-number (unsound rule) = of-section rule refl
-at-its-number (refused refusal) = of-step refusal refl
-at-its-number outermost = of-trace (omega arith) refl
-at-its-number full = of-trace (omega arith) refl
+at_its_number : (cause : TraceCause) → AtItsNumber cause
+unfolding other_of number_of_trace_cause number_of_step_cause
+at_its_number window = of-trace (omega arith) refl
+at_its_number limitAbove = of-trace (omega arith) refl
+at_its_number tooFewWords = of-trace (omega arith) refl
+at_its_number (unsound rule) = of-section rule refl
+at_its_number (refused refusal) = of-step refusal refl
+at_its_number outermost = of-trace (omega arith) refl
+at_its_number full = of-trace (omega arith) refl
 
-same-cause : (cause other : TraceCause) → numberOfTraceCause cause ≡ numberOfTraceCause other → cause ≡ other
-unfolding numberOfTraceCause
-same-cause cause other e = by (at-its-number cause) (at-its-number other)
+same_cause : (cause other : TraceCause) → number_of_trace_cause cause ≡ number_of_trace_cause other → cause ≡ other
+unfolding number_of_trace_cause
+same_cause cause other e = by (at_its_number cause) (at_its_number other)
   where
     -- the numbers of two causes that are told
-    numbers : {a b : TraceCause} → cause ≡ a → other ≡ b → numberOfTraceCause a ≡ numberOfTraceCause b
-    numbers is too = sym (ap numberOfTraceCause is) ∙ e ∙ ap numberOfTraceCause too
+    numbers : {a b : TraceCause} → cause ≡ a → other ≡ b → number_of_trace_cause a ≡ number_of_trace_cause b
+    numbers is too = sym (ap number_of_trace_cause is) ∙ e ∙ ap number_of_trace_cause too
 
     by : AtItsNumber cause → AtItsNumber other → cause ≡ other
     by (of-section rule is) (of-section also too) = is ∙ ap unsound (by_number rule also (numbers is too)) ∙ sym too
-    by (of-section rule is) (of-step refusal too) = absurd (omega (arith, numbers is too, number-of-rule rule, number-of-refusal refusal))
-    by (of-section rule is) (of-trace least found) = absurd (omega (arith, numbers is refl, number-of-rule rule))
-    by (of-step refusal is) (of-section rule too) = absurd (omega (arith, numbers is too, number-of-rule rule, number-of-refusal refusal))
-    by (of-step refusal is) (of-step also too) = is ∙ ap refused (same-refusal refusal also (numbers is too)) ∙ sym too
-    by (of-step refusal is) (of-trace least found) = absurd (omega (arith, numbers is refl, number-of-refusal refusal))
-    by (of-trace least found) (of-section rule too) = absurd (omega (arith, numbers refl too, number-of-rule rule))
-    by (of-trace least found) (of-step refusal too) = absurd (omega (arith, numbers refl too, number-of-refusal refusal))
+    by (of-section rule is) (of-step refusal too) = absurd (omega (arith, numbers is too, number_of_rule_lem rule, number_of_refusal_lem refusal))
+    by (of-section rule is) (of-trace least found) = absurd (omega (arith, numbers is refl, number_of_rule_lem rule))
+    by (of-step refusal is) (of-section rule too) = absurd (omega (arith, numbers is too, number_of_rule_lem rule, number_of_refusal_lem refusal))
+    by (of-step refusal is) (of-step also too) = is ∙ ap refused (same_refusal refusal also (numbers is too)) ∙ sym too
+    by (of-step refusal is) (of-trace least found) = absurd (omega (arith, numbers is refl, number_of_refusal_lem refusal))
+    by (of-trace least found) (of-section rule too) = absurd (omega (arith, numbers refl too, number_of_rule_lem rule))
+    by (of-trace least found) (of-step refusal too) = absurd (omega (arith, numbers refl too, number_of_refusal_lem refusal))
     by (of-trace least found) (of-trace also too) = sym found ∙ ap other_of e ∙ too
 
-pub trace-distinct : Distinct numberOfTraceCause
-unfolding numberOfTraceCause
-trace-distinct = record { same = same-cause; above-0 = above }
+pub trace_distinct : Distinct number_of_trace_cause
+unfolding number_of_trace_cause
+trace_distinct = record { same = same_cause; above_0 = above }
   where
-    at : (cause : TraceCause) → AtItsNumber cause → 1 ≤ numberOfTraceCause cause
-    at cause (of-section rule is) = rw is (omega (arith, number-of-rule rule))
-    at cause (of-step refusal is) = rw is (omega (arith, number-of-refusal refusal))
+    at : (cause : TraceCause) → AtItsNumber cause → 1 ≤ number_of_trace_cause cause
+    at cause (of-section rule is) = rw is (omega (arith, number_of_rule_lem rule))
+    at cause (of-step refusal is) = rw is (omega (arith, number_of_refusal_lem refusal))
     at cause (of-trace least found) = omega arith
 
-    above : (cause : TraceCause) → 1 ≤ numberOfTraceCause cause
-    above cause = at cause (at-its-number cause)
+    above : (cause : TraceCause) → 1 ≤ number_of_trace_cause cause
+    above cause = at cause (at_its_number cause)

@@ -2,14 +2,14 @@
 -- nothing here says how the walk is made.
 use Rattle.std.specs.Prelude.{◌≡◌, List, [], ◌⊎◌, ℕ, suc, ◌*◌, ◌≤◌, ◌<◌, length, get_or}
 use Rattle.accept.specs.Given as accept
-use Rattle.accept.specs.Given.{Rule, numberOfRule, BrokenFirst}
+use Rattle.accept.specs.Given.{Rule, number_of_rule, BrokenFirst}
 use Rattle.accept.specs.Rules.{Obeys}
 use Rattle.caller.specs.Cases.{Rule41, OnRefusal, CallerCase}
-use Rattle.caller.specs.Numbers.{Refusal, numberOfRefusal}
+use Rattle.caller.specs.Numbers.{Refusal, number_of_refusal}
 use Rattle.caller.specs.declared.registers.Registers.{Registers}
 use Rattle.caller.specs.declared.registers.Process.{Process}
-use Rattle.trace.specs.Frames.{inForce, frame_of, withMark}
-use Rattle.trace.specs.Numbers.{TraceCause, window, limitAbove, tooFewWords, unsound, refused, outermost, full, numberOfTraceCause}
+use Rattle.trace.specs.Frames.{in_force, frame_of, with_mark}
+use Rattle.trace.specs.Numbers.{TraceCause, window, limitAbove, tooFewWords, unsound, refused, outermost, full, number_of_trace_cause}
 use Rattle.trace.specs.declared.answer.Ending.{Ending}
 use Rattle.trace.specs.declared.answer.Ending.TheVariants.{Outermost, Full, Refused, Shut, Unsound}
 use Rattle.trace.specs.declared.answer.Frame.{Frame}
@@ -24,26 +24,26 @@ LimitAbove limit = 256 < limit
 
 -- "43 fewer than 3 words per limit frame", of the limit in force
 abbrev pub TooFewWords : ℕ → List ℕ → Type 0
-TooFewWords limit buffer = length buffer < 3 * inForce limit
+TooFewWords limit buffer = length buffer < 3 * in_force limit
 
 -- a number is given at the door where its rule holds and no earlier one does
 abbrev pub AtDoor : List ℕ → Process → ℕ → List ℕ → ℕ → Type 0
 AtDoor stack process limit buffer number =
-    ((number ≡ numberOfTraceCause window) × Rule41 stack process)
-    ⊎ (((number ≡ numberOfTraceCause limitAbove) × (¬ Rule41 stack process) × LimitAbove limit)
-    ⊎ ((number ≡ numberOfTraceCause tooFewWords) × (¬ Rule41 stack process) × (¬ LimitAbove limit) × TooFewWords limit buffer))
+    ((number ≡ number_of_trace_cause window) × Rule41 stack process)
+    ⊎ (((number ≡ number_of_trace_cause limitAbove) × (¬ Rule41 stack process) × LimitAbove limit)
+    ⊎ ((number ≡ number_of_trace_cause tooFewWords) × (¬ Rule41 stack process) × (¬ LimitAbove limit) × TooFewWords limit buffer))
 
 -- none of the three
 pub record DoorOpen (stack : List ℕ) (process : Process) (limit : ℕ) (buffer : List ℕ) : Type 0 where
-  pub in-memory : ¬ Rule41 stack process
+  pub in_memory_lem : ¬ Rule41 stack process
   pub allowed : ¬ LimitAbove limit
   pub room : ¬ TooFewWords limit buffer
 
 -- ---- the walk, over any step: `Yields` says which caller one yields, `Refuses` with which number one is refused
 
 -- what stands past the last frame
-abbrev pub noFrame : Frame
-noFrame = record { cfa = 0; ra = 0; fp = 0 }
+abbrev pub no_frame : Frame
+no_frame = record { cfa = 0; ra = 0; fp = 0 }
 
 -- "writes each frame that a step yields": frame 0 is the step from the registers at the start, and "every frame comes from the
 -- last"; a frame that another follows is not the outermost
@@ -51,7 +51,7 @@ pub record Follows (Yields : Registers → Registers → Type 0) (start : Regist
   pub at : ℕ → Registers
   pub starts : at 0 ≡ start
   pub steps : (k : ℕ) → k < length frames → Yields (at k) (at (suc k))
-  pub written : (k : ℕ) → k < length frames → get_or frames k noFrame ≡ frame_of (at (suc k))
+  pub written : (k : ℕ) → k < length frames → get_or frames k no_frame ≡ frame_of (at (suc k))
   pub goes_on : (k : ℕ) → suc k < length frames → ¬ ((at (suc k)).pc ≡ 0)
 
 -- after `count` frames, the last of which left the registers `last`: no frame has RA 0
@@ -91,14 +91,14 @@ WalkCase Yields Refuses limit start frames ending = WalkTo Yields start frames (
 module _ (s stack : List ℕ) (process : Process) where
   -- a step is refused with its own number
   abbrev pub StepRefuses : Registers → ℕ → Type 0
-  StepRefuses registers number = (refusal : Refusal) × (number ≡ numberOfRefusal refusal) × OnRefusal s stack process registers refusal
+  StepRefuses registers number = (refusal : Refusal) × (number ≡ number_of_refusal refusal) × OnRefusal s stack process registers refusal
 
 module _ (s stack : List ℕ) (process : Process) (registers : Registers) (limit : ℕ) (buffer : List ℕ) where
   -- nothing is refused before the walk, "The walk starts with the mark set", its frames are these, and it ends so
   pub record WalkMade (frames : List Frame) (Holds : ℕ → Registers → Type 0) : Type 0 where
     pub opened : DoorOpen stack process limit buffer
     pub obeys : Obeys s
-    pub walk : WalkTo (CallerCase s stack process) (withMark registers) frames Holds
+    pub walk : WalkTo (CallerCase s stack process) (with_mark registers) frames Holds
 
   -- ---- every number
 
@@ -112,17 +112,17 @@ module _ (s stack : List ℕ) (process : Process) (registers : Registers) (limit
   OnTrace (unsound rule) = DoorOpen stack process limit buffer × BrokenFirst s rule
   -- "A refused step ends it with its own number, 21 to 28."
   OnTrace (refused refusal) =
-      (frames : List Frame) × WalkMade frames (EndsRefused (λ last. OnRefusal s stack process last refusal) (inForce limit))
+      (frames : List Frame) × WalkMade frames (EndsRefused (λ last. OnRefusal s stack process last refusal) (in_force limit))
   -- "RA 0 ends it with 30 (outermost), also in the last allowed frame"
-  OnTrace outermost = (frames : List Frame) × WalkMade frames (EndsOutermost (inForce limit))
+  OnTrace outermost = (frames : List Frame) × WalkMade frames (EndsOutermost (in_force limit))
   -- "otherwise a full limit ends it with 31."
-  OnTrace full = (frames : List Frame) × WalkMade frames (EndsFull (inForce limit))
+  OnTrace full = (frames : List Frame) × WalkMade frames (EndsFull (in_force limit))
 
   -- ---- every ending
 
   -- a walk with this ending
   abbrev pub WalkEnded : List Frame → Ending → Type 0
-  WalkEnded frames ending = WalkMade frames (λ count last. Ends (StepRefuses s stack process) (inForce limit) count last ending)
+  WalkEnded frames ending = WalkMade frames (λ count last. Ends (StepRefuses s stack process) (in_force limit) count last ending)
 
   -- what holds where a trace has these frames and this ending; "These write nothing and answer 0 frames with their number, and for 1
   -- to 15 the entry's index.": the door, and "then 1 to 15"
@@ -132,4 +132,4 @@ module _ (s stack : List ℕ) (process : Process) (registers : Registers) (limit
   Case frames (Refused number) = WalkEnded frames (Refused number)
   Case frames (Shut number) = (frames ≡ []) × AtDoor stack process limit buffer number
   Case frames (Unsound number index) =
-      (frames ≡ []) × DoorOpen stack process limit buffer × (rule : Rule) × (number ≡ numberOfRule rule) × accept.Given s rule index
+      (frames ≡ []) × DoorOpen stack process limit buffer × (rule : Rule) × (number ≡ number_of_rule rule) × accept.Given s rule index

@@ -1,5 +1,5 @@
 pub mod Cases
 pub mod Frames
 pub mod Numbers
-pub mod computed
-pub mod inner
+pub mod Computed
+pub mod Inner

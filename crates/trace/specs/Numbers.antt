@@ -1,9 +1,9 @@
 -- The numbers of a trace (SPECIFICATION 6.2 to 6.8): why it is refused or ends, by name, and document 01's number of each cause; and
 -- of each ending the number and what it carries.
 use Rattle.std.specs.Prelude.{ℕ, List, [], ◌∷◌}
-use Rattle.accept.specs.Given.{Rule, numberOfRule}
+use Rattle.accept.specs.Given.{Rule, number_of_rule}
 use Rattle.caller.specs.Numbers as step
-use Rattle.caller.specs.Numbers.{Refusal, numberOfRefusal, numberOfStepCause}
+use Rattle.caller.specs.Numbers.{Refusal, number_of_refusal, number_of_step_cause}
 use Rattle.trace.specs.declared.answer.Ending.{Ending}
 use Rattle.trace.specs.declared.answer.Ending.TheVariants.{Outermost, Full, Refused, Shut, Unsound}
 
@@ -20,28 +20,28 @@ pub data TraceCause : Type 0 where
   full : TraceCause
 
 -- 41 is one caller's
-unfoldable pub numberOfTraceCause : TraceCause → ℕ
-numberOfTraceCause window = numberOfStepCause step.window
-numberOfTraceCause limitAbove = 42
-numberOfTraceCause tooFewWords = 43
-numberOfTraceCause (unsound rule) = numberOfRule rule
-numberOfTraceCause (refused refusal) = numberOfRefusal refusal
-numberOfTraceCause outermost = 30
-numberOfTraceCause full = 31
+unfoldable pub number_of_trace_cause : TraceCause → ℕ
+number_of_trace_cause window = number_of_step_cause step.window
+number_of_trace_cause limitAbove = 42
+number_of_trace_cause tooFewWords = 43
+number_of_trace_cause (unsound rule) = number_of_rule rule
+number_of_trace_cause (refused refusal) = number_of_refusal refusal
+number_of_trace_cause outermost = 30
+number_of_trace_cause full = 31
 
 -- ---- endings
 
-unfoldable pub endingNumber : Ending → ℕ
-endingNumber Outermost = numberOfTraceCause outermost
-endingNumber Full = numberOfTraceCause full
-endingNumber (Refused number) = number
-endingNumber (Shut number) = number
-endingNumber (Unsound number index) = number
+unfoldable pub ending_number : Ending → ℕ
+ending_number Outermost = number_of_trace_cause outermost
+ending_number Full = number_of_trace_cause full
+ending_number (Refused number) = number
+ending_number (Shut number) = number
+ending_number (Unsound number index) = number
 
 -- "for 1 to 15 the entry's index"
-unfoldable pub endingIndexes : Ending → List ℕ
-endingIndexes Outermost = []
-endingIndexes Full = []
-endingIndexes (Refused number) = []
-endingIndexes (Shut number) = []
-endingIndexes (Unsound number index) = index ∷ []
+unfoldable pub ending_indexes : Ending → List ℕ
+ending_indexes Outermost = []
+ending_indexes Full = []
+ending_indexes (Refused number) = []
+ending_indexes (Shut number) = []
+ending_indexes (Unsound number index) = index ∷ []

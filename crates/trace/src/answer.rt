@@ -1,7 +1,7 @@
 // What a trace answers, and the frames that it writes.
 ghost use Rattle.std.specs.Prelude.{◌≡◌, ◌+◌, ◌≤◌, length};
-ghost use Rattle.caller.specs.Numbers.{stepNumber};
-ghost use Rattle.trace.specs.inner.Writing.{put};
+ghost use Rattle.caller.specs.Numbers.{step_number};
+ghost use Rattle.trace.specs.Inner.Writing.{put};
 ghost use Rattle.trace.specs.Frames.{frame_of, words_of};
 
 use caller::registers::{Registers, Step, cfa_of_sp};
@@ -49,7 +49,7 @@ pub fn frame_of(caller: Registers) -> Frame
 
 // The number that a step is refused with.
 pub fn number_of(step: Step) -> u64
-    ensures { result ≡ stepNumber step }
+    ensures { result ≡ step_number step }
 {
     match step {
         Step::Caller(caller) => 0,

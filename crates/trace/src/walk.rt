@@ -1,9 +1,9 @@
 // The walk: from the registers handed in, with the mark set, to the caller, and from each caller to its own.
 ghost use Rattle.std.specs.Prelude.{◌≡◌, ◌*◌, ◌≤◌, length};
-ghost use Rattle.lookup.specs.inner.Requires.{AcceptedOf};
-ghost use Rattle.trace.specs.inner.Writing.{next_from};
-ghost use Rattle.trace.specs.Frames.{inForce, withMark, tracedAs};
-ghost use Rattle.trace.specs.computed.Trace.{doorFault, checkedWalk, traced, traceOf};
+ghost use Rattle.lookup.specs.Inner.Requires.{AcceptedOf};
+ghost use Rattle.trace.specs.Inner.Writing.{next_from};
+ghost use Rattle.trace.specs.Frames.{in_force, with_mark, traced_as};
+ghost use Rattle.trace.specs.Computed.Trace.{door_fault, checked_walk, traced, trace_of};
 
 use crate::answer::{Ending, Traced, frame_of, number_of, write_frame};
 use accept::section_check::check;
@@ -19,7 +19,7 @@ const MOST: u64 = 256;
 
 // How many frames a trace may have, for a limit that it does not refuse.
 pub fn in_force(limit: u64) -> u64
-    ensures { result ≡ inForce limit }
+    ensures { result ≡ in_force limit }
 {
     if limit == 0 {
         return USUAL;
@@ -28,7 +28,7 @@ pub fn in_force(limit: u64) -> u64
 }
 
 fn with_mark(registers: Registers) -> Registers
-    ensures { result ≡ withMark registers }
+    ensures { result ≡ with_mark registers }
 {
     Registers {
         pc: registers.pc,
@@ -55,7 +55,7 @@ fn next_from(caller: Registers, last: Registers) -> Registers
 
 // 41, 42, 43: what is tried before anything else.
 fn door_fault(stack: &[u8], process: Process, limit: u64, words: u64) -> Fault
-    ensures { result ≡ doorFault stack.now process limit words }
+    ensures { result ≡ door_fault stack.now process limit words }
 {
     if !window_fits(stack, process.stack) {
         return Fault::Breaks(41);
@@ -81,7 +81,7 @@ fn walk(
     buffer: &mut [u64],
 ) -> Traced
     requires { AcceptedOf section.now layout × (limit ≤ 256) × (3 * limit ≤ length buffer.old) }
-    ensures { tracedAs result buffer.new ≡ traced (checkedWalk section.now stack.now process limit registers) buffer.old }
+    ensures { traced_as result buffer.new ≡ traced (checked_walk section.now stack.now process limit registers) buffer.old }
 {
     let mut current = registers;
     let mut frames = 0;
@@ -120,7 +120,7 @@ pub fn trace(
     limit: u64,
     buffer: &mut [u64],
 ) -> Traced
-    ensures { tracedAs result buffer.new ≡ traceOf section.now stack.now process registers limit buffer.old }
+    ensures { traced_as result buffer.new ≡ trace_of section.now stack.now process registers limit buffer.old }
 {
     match door_fault(stack, process, limit, buffer.len() as u64) {
         Fault::Breaks(number) => Traced {

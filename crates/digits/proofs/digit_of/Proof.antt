@@ -2,7 +2,7 @@
 -- Assumes nothing.
 use borrow.Author.Rules.{rules}
 use mathlib.Core.Path.{sym}
-use Rattle.digits.proofs.DigitLaws.{decimal, capital, small, low-gap, capital-gap, small-gap, high-gap}
+use Rattle.digits.proofs.DigitLaws.{decimal, capital, small, low_gap, capital_gap, small_gap, high_gap}
 use Rattle.digits.proofs.digit_of.Statement.{statement}
 use Rattle.digits.proofs.digit_of.Tie as tie
 
@@ -16,16 +16,16 @@ returns-3 : tie.Need-returns-3
 returns-3 c = sym (small _ (search rules) (search rules))
 
 returns-4 : tie.Need-returns-4
-returns-4 c = sym (low-gap _ (search rules))
+returns-4 c = sym (low_gap _ (search rules))
 
 returns-5 : tie.Need-returns-5
-returns-5 c = sym (capital-gap _ (search rules) (search rules))
+returns-5 c = sym (capital_gap _ (search rules) (search rules))
 
 returns-6 : tie.Need-returns-6
-returns-6 c = sym (small-gap _ (search rules) (search rules))
+returns-6 c = sym (small_gap _ (search rules) (search rules))
 
 returns-7 : tie.Need-returns-7
-returns-7 c = sym (high-gap _ (search rules))
+returns-7 c = sym (high_gap _ (search rules))
 
 pub digit-of-spec : {M : Type 1} → statement M
 digit-of-spec =

@@ -6,14 +6,14 @@ use Prim.Native.Nat.{◌≤◌, ◌<◌, ◌-◌, ◌+◌, ◌*◌, ◌^◌}
 use native.Mathlib.Nat.{pow-zero}
 use native.Mathlib.Omega.{arith}
 use lib.ListN.{length, drop}
-use Rattle.digits.specs.Digits.{digitsFrom}
-use Rattle.digits.proofs.DigitLaws.{too_few, too_many, enough, digits_more, digits-wrong, digits-done, room-for-one, one_more}
+use Rattle.digits.specs.Digits.{digits_from}
+use Rattle.digits.proofs.DigitLaws.{too_few, too_many, enough, digits_more, digits_wrong, digits_done, room_for_one, one_more}
 use Rattle.digits.proofs.digits_of.Statement.{statement}
 use Rattle.digits.proofs.digits_of.Tie as tie
 
 abbrev invariant-loop : tie.invariant-loop
 invariant-loop text base most n₀ i₀ n i =
-    (i ≤ length text) × (n < base ^ i) × (digitsFrom base n (drop i text) ≡ digitsFrom base 0 text)
+    (i ≤ length text) × (n < base ^ i) × (digits_from base n (drop i text) ≡ digits_from base 0 text)
 
 abbrev decreases-loop : tie.decreases-loop
 decreases-loop text base most n₀ i₀ n i = length text - i
@@ -32,7 +32,7 @@ returns-3 c =
     let turn = c.before.before.before.before in
     sym
     (enough _ _ _ (search rules) (search rules) ∙ sym turn.loop.invariant.2
-    ∙ digits-wrong _ turn.loop.n _ turn.loop.i _ (search rules) c.before.digit-of.ensures (search rules))
+    ∙ digits_wrong _ turn.loop.n _ turn.loop.i _ (search rules) c.before.digit-of.ensures (search rules))
 
 -- what was read so far leaves room for one more digit
 room : (c : tie.Else3 invariant-loop decreases-loop) → let turn = c.before.before.before.before in
@@ -40,7 +40,7 @@ room : (c : tie.Else3 invariant-loop decreases-loop) → let turn = c.before.bef
 room c =
     let turn = c.before.before.before.before in
     let asked = turn.before.before.before.before.requires in
-    room-for-one _ _ turn.loop.n turn.loop.i _ asked.0 asked.1 (search rules) turn.loop.invariant.1 (search rules)
+    room_for_one _ _ turn.loop.n turn.loop.i _ asked.0 asked.1 (search rules) turn.loop.invariant.1 (search rules)
 
 mul-n : tie.Need-overflow-mul-n invariant-loop decreases-loop
 mul-n c = record { fits = omega (arith, room c) }
@@ -62,7 +62,7 @@ returns-4 c =
     let last = c.before in
     sym
     (enough _ _ _ (search rules) (search rules) ∙ sym last.loop.invariant.2
-    ∙ digits-done _ last.loop.n _ last.loop.i (search rules))
+    ∙ digits_done _ last.loop.n _ last.loop.i (search rules))
 
 pub digits-of-spec : {M : Type 1} → statement M
 digits-of-spec =

@@ -4,12 +4,12 @@ use borrow.Author.Rules.{rules}
 use borrow.Author.Tests.{eq-eqb, ne_eqb}
 use mathlib.Core.Path.{sym}
 use Rattle.digits.specs.Digits.{marked}
-use Rattle.digits.proofs.DigitLaws.{marked-short}
+use Rattle.digits.proofs.DigitLaws.{marked_short}
 use Rattle.digits.proofs.is_marked.Statement.{statement}
 use Rattle.digits.proofs.is_marked.Tie as tie
 
 returns : tie.Need-returns
-returns c = sym (marked-short _ c.if1.true)
+returns c = sym (marked_short _ c.if1.true)
 
 returns-2 : tie.Need-returns-2
 unfolding marked

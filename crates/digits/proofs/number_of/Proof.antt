@@ -4,12 +4,12 @@ use borrow.Author.Rules.{rules}
 use mathlib.Core.Path.{sym, ◌∙◌}
 use lib.ListN.{length}
 use Prim.Native.Nat.{◌≤◌}
-use Rattle.digits.proofs.DigitLaws.{padding-within, number_behind}
+use Rattle.digits.proofs.DigitLaws.{padding_within, number_behind}
 use Rattle.digits.proofs.number_of.Statement.{statement}
 use Rattle.digits.proofs.number_of.Tie as tie
 
 sub-digits-of : tie.Need-overflow-sub-digits-of
-sub-digits-of c = rw c.padding-of.ensures (padding-within _)
+sub-digits-of c = rw c.padding-of.ensures (padding_within _)
 
 part-digits-of-start : tie.Need-slice-bounds-digits-of-start
 part-digits-of-start c = let within = sub-digits-of c in search rules

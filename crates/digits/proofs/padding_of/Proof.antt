@@ -7,7 +7,7 @@ use native.Mathlib.Numerals.{add-one}
 use native.Mathlib.Omega.{arith}
 use lib.ListN.{length, drop, length-drop}
 use Rattle.digits.specs.Digits.{padding}
-use Rattle.digits.proofs.DigitLaws.{padding-begins, padding-stops, padding-goes-on, padding-ends}
+use Rattle.digits.proofs.DigitLaws.{padding_begins, padding_stops, padding_goes_on, padding_ends}
 use Rattle.digits.proofs.padding_of.Statement.{statement}
 use Rattle.digits.proofs.padding_of.Tie as tie
 
@@ -18,20 +18,20 @@ abbrev decreases-loop : tie.decreases-loop
 decreases-loop text i₀ i = length text - i
 
 loop-holds : tie.Need-loop-init invariant-loop decreases-loop
-loop-holds c = (search rules, padding-begins _)
+loop-holds c = (search rules, padding_begins _)
 
 returns : tie.Need-returns invariant-loop decreases-loop
 returns c =
     let turn = c.before.before.before in
-    sym (padding-stops _ _ turn.loop.invariant.1 (search rules) (search rules))
+    sym (padding_stops _ _ turn.loop.invariant.1 (search rules) (search rules))
 
 loop-again : tie.Need-loop-preserved invariant-loop decreases-loop
 loop-again c =
     let turn = c.before.before.before in
-    (search rules, padding-goes-on _ _ turn.loop.invariant.1 (search rules) (search rules))
+    (search rules, padding_goes_on _ _ turn.loop.invariant.1 (search rules) (search rules))
 
 returns-2 : tie.Need-returns-2 invariant-loop decreases-loop
-returns-2 c = sym (padding-ends _ _ c.before.loop.invariant.1 (search rules))
+returns-2 c = sym (padding_ends _ _ c.before.loop.invariant.1 (search rules))
 
 pub padding-of-spec : {M : Type 1} → statement M
 padding-of-spec =

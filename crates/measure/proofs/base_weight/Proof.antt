@@ -1,16 +1,16 @@
 -- `measure::base_weight` numbers the two bases.
 -- Assumes nothing.
 use borrow.Author.Rules.{rules}
-use Rattle.measure.specs.Digest.{baseWeight}
+use Rattle.measure.specs.Digest.{base_weight}
 use Rattle.measure.proofs.base_weight.Statement.{statement}
 use Rattle.measure.proofs.base_weight.Tie as tie
 
 returns : tie.Need-returns
-unfolding baseWeight
+unfolding base_weight
 returns c = search rules
 
 returns-2 : tie.Need-returns-2
-unfolding baseWeight
+unfolding base_weight
 returns-2 c = search rules
 
 pub base-weight-spec : {M : Type 1} → statement M

@@ -2,16 +2,16 @@
 -- Assumes nothing.
 use borrow.Author.Rules.{rules}
 use mathlib.Core.Path.{sym, ◌∙◌}
-use Rattle.measure.specs.Digest.{shiftWeight, magnitude}
+use Rattle.measure.specs.Digest.{shift_weight, magnitude}
 use Rattle.measure.proofs.magnitude_of.Statement.{statement}
 use Rattle.measure.proofs.magnitude_of.Tie as tie
 
 returns : tie.Need-returns
-unfolding shiftWeight magnitude
+unfolding shift_weight magnitude
 returns c = let told = c.before.before in rw (sym told.before.before.Shift-of.ensures ∙ told.k.given.1) (search rules)
 
 returns-2 : tie.Need-returns-2
-unfolding shiftWeight magnitude
+unfolding shift_weight magnitude
 returns-2 c = let told = c.before.before in rw (sym told.before.before.Shift-of.ensures ∙ told.k2.given.1) (search rules)
 
 pub magnitude-of-spec : {M : Type 1} → statement M

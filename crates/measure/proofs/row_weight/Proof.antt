@@ -1,12 +1,12 @@
 -- `measure::row_weight` adds up the weights of a row's parts, each below 2^32.
 -- Assumes nothing.
 use borrow.Author.Rules.{rules}
-use Rattle.measure.specs.Digest.{rowWeight}
+use Rattle.measure.specs.Digest.{row_weight}
 use Rattle.measure.proofs.row_weight.Statement.{statement}
 use Rattle.measure.proofs.row_weight.Tie as tie
 
 returns : tie.Need-returns
-unfolding rowWeight
+unfolding row_weight
 returns c = search rules
 
 pub row-weight-spec : {M : Type 1} → statement M

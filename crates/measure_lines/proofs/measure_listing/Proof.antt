@@ -2,22 +2,22 @@
 -- Assumes nothing.
 use borrow.Author.Rules.{rules}
 use mathlib.Core.Path.{sym, ◌∙◌}
-use Rattle.accept.proofs.AcceptedLaws.{accepted-laws}
-use Rattle.listing.specs.Listing.{listingBy, listingOf}
+use Rattle.accept.proofs.AcceptedLaws.{accepted_laws}
+use Rattle.listing.specs.Listing.{listing_by, listing_of}
 use Rattle.listing.proofs.ListingLaws.{all_lines}
-use Rattle.measure_lines.specs.Listed.{listedBy, listed_of}
+use Rattle.measure_lines.specs.Listed.{listed_by, listed_of}
 use Rattle.measure_lines.proofs.measure_listing.Statement.{statement}
 use Rattle.measure_lines.proofs.measure_listing.Tie as tie
 
 layout-at-requires : tie.Need-layout-at-requires
-layout-at-requires c κs = (accepted-laws _ (sym c.before.before.check.ensures ∙ c.enum_told.given.1)).header.rule1
+layout-at-requires c κs = (accepted_laws _ (sym c.before.before.check.ensures ∙ c.enum_told.given.1)).header.rule1
 
 returns : tie.Need-returns
-unfolding listedBy listed_of listingBy listingOf
+unfolding listed_by listed_of listing_by listing_of
 returns c = rw (sym c.before.before.before.check.ensures ∙ c.before.number.given.1)
 
 returns-2 : tie.Need-returns-2
-unfolding listedBy listed_of listingBy listingOf
+unfolding listed_by listed_of listing_by listing_of
 returns-2 c =
     let told = c.before.before.before in
     let accepted = sym told.before.before.check.ensures ∙ told.enum_told.given.1 in

@@ -2,37 +2,37 @@
 -- Assumes nothing.
 use borrow.Author.Rules.{rules}
 use mathlib.Core.Path.{◌≡◌, sym, ◌∙◌}
-use Rattle.section.specs.Shape.{abiOf, shape}
-use Rattle.accept.specs.computed.Checks.{sameOffset, wrongFixed}
+use Rattle.section.specs.Shape.{abi_of, shape}
+use Rattle.accept.specs.Computed.Checks.{same_offset, wrong_fixed}
 use Rattle.accept.proofs.header_check.wrong_fixed.Statement.{statement}
 use Rattle.accept.proofs.header_check.wrong_fixed.Tie as tie
 
 first : (c : tie.After-same-offset)
     → c.same-offset.result
-    ≡ sameOffset c.before.before.before.before.before.before.before.args.marks.fp
-    (shape (abiOf c.before.before.before.before.before.before.before.args.marks.abi)).fixedfp
+    ≡ same_offset c.before.before.before.before.before.before.before.args.marks.fp
+    (shape (abi_of c.before.before.before.before.before.before.before.args.marks.abi)).fixedfp
 first c =
     let known = c.before.before.before.before.before in
     rw known.before.abi-of.ensures at (rw known.shape_of.ensures at c.same-offset.ensures)
 
 second : (c : tie.After-same-offset2)
     → c.same-offset2.result
-    ≡ sameOffset c.before.before.before.before.before.before.before.before.before.args.marks.ra
-    (shape (abiOf c.before.before.before.before.before.before.before.before.before.args.marks.abi)).fixedra
+    ≡ same_offset c.before.before.before.before.before.before.before.before.before.args.marks.ra
+    (shape (abi_of c.before.before.before.before.before.before.before.before.before.args.marks.abi)).fixedra
 second c =
     let known = c.before.before.before.before.before.before.before in
     rw known.before.abi-of.ensures at (rw known.shape_of.ensures at c.same-offset2.ensures)
 
 returns : tie.Need-returns
-unfolding wrongFixed
+unfolding wrong_fixed
 returns c = rw (sym (first c.before.before.before) ∙ c.before.before.if1.true, sym (second c.before) ∙ c.if2.true)
 
 returns-2 : tie.Need-returns-2
-unfolding wrongFixed
+unfolding wrong_fixed
 returns-2 c = rw (sym (first c.before.before.before) ∙ c.before.before.if1.true, sym (second c.before) ∙ c.if2.false)
 
 returns-3 : tie.Need-returns-3
-unfolding wrongFixed
+unfolding wrong_fixed
 returns-3 c = rw (sym (first c.before) ∙ c.if1.false)
 
 pub wrong-fixed-spec : {M : Type 1} → statement M

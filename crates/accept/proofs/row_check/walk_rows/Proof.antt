@@ -5,11 +5,11 @@ use borrow.Author.Rules.{rules}
 use mathlib.Core.Path.{◌≡◌, refl, sym, ◌∙◌}
 use Prim.Native.Nat.{◌-◌}
 use lib.ListN.{take}
-use Rattle.section.specs.Row.{rowStart}
-use Rattle.accept.specs.computed.Checks.{firstBad, rowTests}
+use Rattle.section.specs.Row.{row_start}
+use Rattle.accept.specs.Computed.Checks.{first_bad, row_tests}
 use Rattle.accept.specs.declared.verdict.Fault.TheVariants.{Sound}
-use Rattle.accept.proofs.TableLaws.{row-refused}
-use Rattle.accept.proofs.WalkLaws.{RowsPassed, row_low, row_fine, row_inside, walk_begins, walk-goes-on, walk-stops, walk_ends}
+use Rattle.accept.proofs.TableLaws.{row_refused}
+use Rattle.accept.proofs.WalkLaws.{RowsPassed, row_low, row_fine, row_inside, walk_begins, walk_goes_on, walk_stops, walk_ends}
 use Rattle.accept.proofs.row_check.walk_rows.Statement.{statement}
 use Rattle.accept.proofs.row_check.walk_rows.Tie as tie
 
@@ -25,14 +25,14 @@ loop-holds c = (walk_begins _ _ _ _ _ c.before.requires.1, refl)
 returns : tie.Need-returns invariant-loop decreases-loop
 returns c =
     let tried = c.before.before.before in
-    walk-stops tried.before.before.loop.invariant.0 tried.before.loop-test.true
-    (row-refused _ _ _ _ _ (sym tried.check-row.ensures ∙ c.before.number.given.1))
+    walk_stops tried.before.before.loop.invariant.0 tried.before.loop-test.true
+    (row_refused _ _ _ _ _ (sym tried.check-row.ensures ∙ c.before.number.given.1))
 
 -- the next row is sound but for its start
 parts : (c : tie.After-enum-told invariant-loop decreases-loop)
-    → firstBad
+    → first_bad
     (take 3
-    (rowTests c.before.before.before.before.before.before.args.area.now c.before.before.before.before.before.before.args.shape
+    (row_tests c.before.before.before.before.before.before.args.area.now c.before.before.before.before.before.before.args.shape
     c.before.before.before.before.before.before.args.code c.before.before.before.before.loop.at 0))
     ≡ Sound
 parts c = sym c.before.before.check-row.ensures ∙ c.enum_told.given.1
@@ -45,17 +45,17 @@ field-at-requires c κs =
 -- what was read is the row's start
 start_is : (c : tie.After-field-at invariant-loop decreases-loop)
     → c.field_at.result
-    ≡ rowStart c.before.before.before.before.before.before.before.args.area.now
+    ≡ row_start c.before.before.before.before.before.before.before.args.area.now
     c.before.before.before.before.before.before.before.args.shape.order c.before.before.before.before.before.before.before.args.code
     c.before.before.before.before.before.loop.at
-unfolding rowStart
+unfolding row_start
 start_is c = rw c.before.before.before.before.before.loop.invariant.1 at c.field_at.ensures
 
 returns-2 : tie.Need-returns-2 invariant-loop decreases-loop
 returns-2 c =
     let told = c.before.before in
     let test = told.before.before.before in
-    walk-stops test.before.loop.invariant.0 test.loop-test.true (row_low _ _ _ _ _ (parts told) (rw (start_is c.before) at c.if1.true))
+    walk_stops test.before.loop.invariant.0 test.loop-test.true (row_low _ _ _ _ _ (parts told) (rw (start_is c.before) at c.if1.true))
 
 row-length-requires : tie.Need-row-length-requires invariant-loop decreases-loop
 row-length-requires c κs =
@@ -71,7 +71,7 @@ loop-again c =
     let told = fine.before.before in
     let test = told.before.before.before in (
       rw (c.row-length.ensures, start_is fine.before)
-          (walk-goes-on test.before.loop.invariant.0 test.loop-test.true
+          (walk_goes_on test.before.loop.invariant.0 test.loop-test.true
           (row_fine _ _ _ _ _ (parts told) (rw (start_is fine.before) at fine.if1.false))),
       test.before.loop.invariant.1,
     )

@@ -5,14 +5,14 @@ use borrow.Author.Rules.{rules}
 use mathlib.Core.Path.{◌≡◌, sym, ◌∙◌}
 use Prim.Native.Nat.{◌+◌, ◌-◌, ◌*◌, ◌≤◌, ◌<◌}
 use lib.ListN.{length}
-use Rattle.numbers.specs.inner.Held.{Held}
+use Rattle.numbers.specs.Inner.Held.{Held}
 use Rattle.section.specs.Header.{layout_of}
-use Rattle.section.specs.Meaning.{entryIn, functionStart}
-use Rattle.accept.specs.Rules.{HeaderObeys, functionCount}
-use Rattle.accept.specs.computed.Checks.{sumFault, turnFault}
-use Rattle.accept.proofs.AcceptedLaws.{few-functions, area-inside, entry-inside}
-use Rattle.accept.proofs.Exactly.{header-exactly-when}
-use Rattle.accept.proofs.TurnLaws.{Turned, turns-begin, turn_is, turns-go-on, turns-stop, turns-end}
+use Rattle.section.specs.Meaning.{entry_in, function_start}
+use Rattle.accept.specs.Rules.{HeaderObeys, function_count}
+use Rattle.accept.specs.Computed.Checks.{sum_fault, turn_fault}
+use Rattle.accept.proofs.AcceptedLaws.{few_functions, area_inside, entry_inside}
+use Rattle.accept.proofs.Exactly.{header_exactly_when}
+use Rattle.accept.proofs.TurnLaws.{Turned, turns_begin, turn_is, turns_go_on, turns_stop, turns_end}
 use Rattle.accept.proofs.section_check.check_each.Statement.{statement}
 use Rattle.accept.proofs.section_check.check_each.Tie as tie
 
@@ -23,11 +23,11 @@ abbrev decreases-loop : tie.decreases-loop
 decreases-loop section area layout shape order low₀ rows₀ i₀ low rows i = layout.functions - i
 
 loop-holds : tie.Need-loop-init invariant-loop decreases-loop
-loop-holds c = turns-begin _
+loop-holds c = turns_begin _
 
 -- the header obeys
 header : (c : tie.Start invariant-loop decreases-loop) → HeaderObeys c.args.section.now
-header c = (header-exactly-when _).0 c.requires.sound
+header c = (header_exactly_when _).0 c.requires.sound
 
 inside : (c : tie.Then1 invariant-loop decreases-loop) → c.before.before.loop.i < (layout_of c.before.before.before.before.before.args.section.now).functions
 inside c = rw c.before.before.before.before.before.requires.layout_is at c.if1.true
@@ -36,10 +36,10 @@ inside c = rw c.before.before.before.before.before.requires.layout_is at c.if1.t
 room : (c : tie.Then1 invariant-loop decreases-loop)
     → c.before.before.before.before.before.args.layout.table + 20 * c.before.before.loop.i + 20
     ≤ length c.before.before.before.before.before.args.section.now
-unfolding functionCount
+unfolding function_count
 room c =
     let start = c.before.before.before.before.before in
-    rw start.requires.layout_is (omega (arith, entry-inside (header start) _ (inside c), area-inside (header start)))
+    rw start.requires.layout_is (omega (arith, entry_inside (header start) _ (inside c), area_inside (header start)))
 
 small : (c : tie.Then1 invariant-loop decreases-loop)
     → c.before.before.before.before.before.args.layout.table + 20 * c.before.before.loop.i + 20 ≤ 16777216
@@ -60,15 +60,15 @@ entry-at-requires c κs = room c.before
 -- what was read is entry i
 entry-is : (c : tie.After-entry-at invariant-loop decreases-loop)
     → c.entry_at.result
-    ≡ entryIn c.before.before.before.before.before.before.before.args.section.now c.before.before.before.before.loop.i
-unfolding entryIn
+    ≡ entry_in c.before.before.before.before.before.before.before.args.section.now c.before.before.before.before.loop.i
+unfolding entry_in
 entry-is c =
     let start = c.before.before.before.before.before.before.before in
     rw (start.requires.order_is, start.requires.layout_is) at c.entry_at.ensures
 
 held : (c : tie.After-start-of invariant-loop decreases-loop)
     → Held
-    (functionStart c.before.before.before.before.before.before.before.before.args.section.now
+    (function_start c.before.before.before.before.before.before.before.before.args.section.now
     c.before.before.before.before.before.loop.i)
     c.start_of_lem.result
 held c =
@@ -77,26 +77,26 @@ held c =
 
 turn : (c : tie.After-check-turn invariant-loop decreases-loop)
     → c.check-turn.result
-    ≡ turnFault c.before.before.before.before.before.before.before.before.before.args.section.now
+    ≡ turn_fault c.before.before.before.before.before.before.before.before.before.args.section.now
     c.before.before.before.before.before.before.loop.i
 turn c =
     let loop = c.before.before.before.before.before.before in
     let start = loop.before.before.before in
-    (rw (start.requires.area-is, start.requires.shape_is, entry-is c.before.before, start.requires.layout_is) at c.check-turn.ensures)
+    (rw (start.requires.area_is, start.requires.shape_is, entry-is c.before.before, start.requires.layout_is) at c.check-turn.ensures)
     ∙ turn_is _ _ _ _ (held c.before) loop.loop.invariant.end
 
 returns : tie.Need-returns invariant-loop decreases-loop
 returns c =
     let tried = c.before.before.before in
     let test = tried.before.before.before.before in
-    turns-stop test.before.before.loop.invariant (inside test) (sym (turn tried) ∙ c.before.number.given.1)
+    turns_stop test.before.before.loop.invariant (inside test) (sym (turn tried) ∙ c.before.number.given.1)
 
 add-rows : tie.Need-overflow-add-rows invariant-loop decreases-loop
-unfolding functionCount
+unfolding function_count
 add-rows c =
     let test = c.before.before.before.before.before.before.before.before in
     let start = test.before.before.before.before.before in
-    omega (arith, test.before.before.loop.invariant.small, inside test, few-functions (header start), c.struct-known4.given)
+    omega (arith, test.before.before.loop.invariant.small, inside test, few_functions (header start), c.struct-known4.given)
 
 loop-again : tie.Need-loop-preserved invariant-loop decreases-loop
 loop-again c =
@@ -104,17 +104,17 @@ loop-again c =
     let test = tried.before.before.before.before in
     let few : tried.before.before.entry_at.result.rows < 0x1_0000_0000 = omega (arith, c.struct-known4.given) in
     rw (entry-is tried.before.before)
-    (turns-go-on test.before.before.loop.invariant (inside test) (held tried.before) (rw (entry-is tried.before.before) at few)
+    (turns_go_on test.before.before.loop.invariant (inside test) (held tried.before) (rw (entry-is tried.before.before) at few)
     (sym (turn tried) ∙ c.before.before.enum_told.given.1))
 
 returns-2 : tie.Need-returns-2 invariant-loop decreases-loop
-unfolding sumFault
+unfolding sum_fault
 returns-2 c =
     let loop = c.before.before.before in
     let start = loop.before.before.before in
     let left : (layout_of start.args.section.now).functions ≤ loop.loop.i = rw start.requires.layout_is at c.before.if1.false in
     let all : loop.loop.i ≡ (layout_of start.args.section.now).functions = omega (arith, loop.loop.invariant.within) in
-    (rw (loop.loop.invariant.sum, all, start.requires.layout_is) at c.check-sum.ensures) ∙ turns-end loop.loop.invariant left
+    (rw (loop.loop.invariant.sum, all, start.requires.layout_is) at c.check-sum.ensures) ∙ turns_end loop.loop.invariant left
 
 pub check-each-spec : {M : Type 1} → statement M
 check-each-spec =

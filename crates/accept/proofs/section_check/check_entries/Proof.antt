@@ -4,20 +4,20 @@ use borrow.Author.Rules.{rules}
 use mathlib.Core.Path.{◌∙◌, ap}
 use Prim.Native.Nat.{◌≤◌}
 use lib.ListN.{length, drop}
-use Rattle.section.specs.Meaning.{areaOf, shape_of}
+use Rattle.section.specs.Meaning.{area_of, shape_of}
 use Rattle.section.proofs.AreaLaws.{to_the_end}
 use Rattle.accept.specs.Rules.{HeaderObeys}
-use Rattle.accept.proofs.AcceptedLaws.{area-inside}
-use Rattle.accept.proofs.Exactly.{header-exactly-when}
+use Rattle.accept.proofs.AcceptedLaws.{area_inside}
+use Rattle.accept.proofs.Exactly.{header_exactly_when}
 use Rattle.accept.proofs.section_check.check_entries.Statement.{statement}
 use Rattle.accept.proofs.section_check.check_entries.Tie as tie
 
 -- the header obeys
 header : (c : tie.Start) → HeaderObeys c.args.section.now
-header c = (header-exactly-when _).0 c.requires
+header c = (header_exactly_when _).0 c.requires
 
 area-within : (c : tie.After-layout-at) → c.layout-at.result.area ≤ length c.before.before.args.section.now
-area-within c = rw c.layout-at.ensures (area-inside (header c.before.before))
+area-within c = rw c.layout-at.ensures (area_inside (header c.before.before))
 
 layout-at-requires : tie.Need-layout-at-requires
 layout-at-requires c κs = (header c.before).rule1
@@ -32,13 +32,13 @@ order-at-requires : tie.Need-order-at-requires
 order-at-requires c κs = (header c.before.before.before.before).rule1
 
 check-each-requires : tie.Need-check-each-requires
-unfolding areaOf shape_of
+unfolding area_of shape_of
 check-each-requires c κs =
     let layout = c.before.before.before in
     let start = layout.before.before in
     record {
       sound = start.requires;
-      area-is = to_the_end start.args.section.now layout.layout-at.result.area ∙ ap (λ l. drop l.area start.args.section.now) layout.layout-at.ensures;
+      area_is = to_the_end start.args.section.now layout.layout-at.result.area ∙ ap (λ l. drop l.area start.args.section.now) layout.layout-at.ensures;
       layout_is = layout.layout-at.ensures;
       shape_is = rw layout.layout-at.ensures at c.before.shape-of.ensures;
       order_is = c.order-at.ensures;

@@ -2,8 +2,8 @@
 -- Assumes nothing.
 use borrow.Author.Rules.{rules}
 use mathlib.Core.Path.{sym, ◌∙◌}
-use Rattle.accept.specs.computed.Checks.{and_then}
-use Rattle.accept.proofs.TableLaws.{test-true, test-false, no_test}
+use Rattle.accept.specs.Computed.Checks.{and_then}
+use Rattle.accept.proofs.TableLaws.{test_true, test_false, no_test}
 use Rattle.accept.proofs.section_check.check_turn.Statement.{statement}
 use Rattle.accept.proofs.section_check.check_turn.Tie as tie
 
@@ -12,7 +12,7 @@ unfolding and_then
 returns c =
     let tried = c.before.before.before.before in
     rw (sym tried.check-entry.ensures ∙ c.before.before.enum_told.given.1)
-    (sym (test-true _ _ (sym c.before.starts-below.ensures ∙ c.if1.true)))
+    (sym (test_true _ _ (sym c.before.starts-below.ensures ∙ c.if1.true)))
 
 returns-2 : tie.Need-returns-2
 unfolding and_then
@@ -23,7 +23,7 @@ unfolding and_then
 returns-3 c =
     let tried = c.before.before.before.before in
     rw (sym tried.check-entry.ensures ∙ c.before.before.enum_told.given.1)
-    (sym (test-false _ _ (sym c.before.starts-below.ensures ∙ c.if1.false) ∙ no_test))
+    (sym (test_false _ _ (sym c.before.starts-below.ensures ∙ c.if1.false) ∙ no_test))
 
 pub check-turn-spec : {M : Type 1} → statement M
 check-turn-spec =

@@ -7,21 +7,21 @@ use mathlib.Core.List.{List}
 use Prim.Native.Nat.{ℕ}
 use lib.IntN.{ℤ}
 use Rattle.section.specs.Header.{layout_of}
-use Rattle.section.specs.Meaning.{functionsOf}
+use Rattle.section.specs.Meaning.{functions_of}
 use Rattle.lookup.specs.Halving.{landing}
-use Rattle.ask.specs.computed.Ask.{whereLanded, askIn}
+use Rattle.ask.specs.Computed.Ask.{where_landed, ask_in}
 use Rattle.ask.specs.declared.answer.AskAnswer.TheVariants.{Unsorted}
 use Rattle.ask.proofs.land.ask_in.Statement.{statement}
 use Rattle.ask.proofs.land.ask_in.Tie as tie
 
 sorted : (s : List ℕ) (d : ℤ) → (layout_of s).sorted ≡ true
-    → whereLanded s d (landing d (functionsOf s)).compared (landing d (functionsOf s)).low ≡ askIn s d
-unfolding askIn
-sorted s d set = rw (set, askIn)
+    → where_landed s d (landing d (functions_of s)).compared (landing d (functions_of s)).low ≡ ask_in s d
+unfolding ask_in
+sorted s d set = rw (set, ask_in)
 
-unsorted : (s : List ℕ) (d : ℤ) → (layout_of s).sorted ≡ false → Unsorted ≡ askIn s d
-unfolding askIn
-unsorted s d unset = rw (unset, askIn)
+unsorted : (s : List ℕ) (d : ℤ) → (layout_of s).sorted ≡ false → Unsorted ≡ ask_in s d
+unfolding ask_in
+unsorted s d unset = rw (unset, ask_in)
 
 returns : tie.Need-returns
 returns c =

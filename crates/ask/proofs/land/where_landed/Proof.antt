@@ -6,42 +6,42 @@ use mathlib.Core.Path.{◌≡◌, sym, ◌∙◌, ap}
 use mathlib.Core.List.{List}
 use Prim.Native.Nat.{ℕ, suc, ◌-◌, ◌<◌}
 use lib.IntN.{ℤ, ◌-ℤ◌}
-use Rattle.numbers.specs.inner.Held.{natural}
-use Rattle.section.specs.Meaning.{functionStart, functionIn}
-use Rattle.lookup.specs.computed.Covering.{covers}
+use Rattle.numbers.specs.Inner.Held.{natural}
+use Rattle.section.specs.Meaning.{function_start, function_in}
+use Rattle.lookup.specs.Computed.Covering.{covers}
 use Rattle.lookup.specs.declared.search.Past.TheVariants.{Outside, By}
-use Rattle.lookup.specs.inner.Search.{pastIn}
+use Rattle.lookup.specs.Inner.Search.{past_in}
 use Rattle.lookup.proofs.CoveringLaws.{by_value}
-use Rattle.ask.specs.computed.Ask.{whereLanded}
-use Rattle.ask.specs.inner.Parts.{pastFunction}
+use Rattle.ask.specs.Computed.Ask.{where_landed}
+use Rattle.ask.specs.Inner.Parts.{past_function}
 use Rattle.ask.specs.declared.answer.AskAnswer.TheVariants.{NoFunction}
-use Rattle.ask.proofs.SoughtLaws.{past-answer}
+use Rattle.ask.proofs.SoughtLaws.{past_answer}
 use Rattle.ask.proofs.land.where_landed.Statement.{statement}
 use Rattle.ask.proofs.land.where_landed.Tie as tie
 
 module _ (s : List ℕ) (d : ℤ) (compared low : ℕ) (some : 0 < low) where
-  before-low : whereLanded s d compared low ≡ whereLanded s d compared (suc (low - 1))
-  before-low = ap (whereLanded s d compared) (omega arith)
+  before-low : where_landed s d compared low ≡ where_landed s d compared (suc (low - 1))
+  before-low = ap (where_landed s d compared) (omega arith)
 
-  inside : (past : ℕ) → pastIn d (functionIn s (low - 1)) ≡ By past → pastFunction s (low - 1) past compared ≡ whereLanded s d compared low
-  unfolding whereLanded pastIn functionIn
+  inside : (past : ℕ) → past_in d (function_in s (low - 1)) ≡ By past → past_function s (low - 1) past compared ≡ where_landed s d compared low
+  unfolding where_landed past_in function_in
   inside past is =
-      by_value (covers d (functionIn s (low - 1)))
+      by_value (covers d (function_in s (low - 1)))
       (λ set.
-      let by : By (natural (d -ℤ functionStart s (low - 1))) ≡ By past = rw (set, pastIn) at is in
-      let same : natural (d -ℤ functionStart s (low - 1)) ≡ past = cc in
-      rw (← same) (past-answer s d (low - 1) compared ∙ sym (before-low ∙ (rw (set, whereLanded)))))
-      (λ unset. absurd (let other : Outside ≡ By past = rw (unset, pastIn) at is in let z : ◌≡◌ {A = ℕ} 0 1 = cc in omega arith))
+      let by : By (natural (d -ℤ function_start s (low - 1))) ≡ By past = rw (set, past_in) at is in
+      let same : natural (d -ℤ function_start s (low - 1)) ≡ past = cc in
+      rw (← same) (past_answer s d (low - 1) compared ∙ sym (before-low ∙ (rw (set, where_landed)))))
+      (λ unset. absurd (let other : Outside ≡ By past = rw (unset, past_in) at is in let z : ◌≡◌ {A = ℕ} 0 1 = cc in omega arith))
 
-  beside : pastIn d (functionIn s (low - 1)) ≡ Outside → NoFunction compared ≡ whereLanded s d compared low
-  unfolding whereLanded pastIn
+  beside : past_in d (function_in s (low - 1)) ≡ Outside → NoFunction compared ≡ where_landed s d compared low
+  unfolding where_landed past_in
   beside is =
-      by_value (covers d (functionIn s (low - 1)))
-      (λ set. absurd (let other : By _ ≡ Outside = rw (set, pastIn) at is in let z : ◌≡◌ {A = ℕ} 0 1 = cc in omega arith))
-      (λ unset. sym (before-low ∙ (rw (unset, whereLanded))))
+      by_value (covers d (function_in s (low - 1)))
+      (λ set. absurd (let other : By _ ≡ Outside = rw (set, past_in) at is in let z : ◌≡◌ {A = ℕ} 0 1 = cc in omega arith))
+      (λ unset. sym (before-low ∙ (rw (unset, where_landed))))
 
 returns : tie.Need-returns
-unfolding whereLanded
+unfolding where_landed
 returns c = rw c.if1.true
 
 past-in-requires : tie.Need-past-in-requires

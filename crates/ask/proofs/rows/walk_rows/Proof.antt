@@ -5,12 +5,12 @@ use borrow.Author.Rules.{rules}
 use mathlib.Core.Path.{◌≡◌, refl, sym, ◌∙◌, ap}
 use Prim.Native.Nat.{◌-◌}
 use lib.ListN.{take}
-use Rattle.section.specs.Row.{rowStart}
-use Rattle.accept.specs.computed.Checks.{firstBad, rowTests}
+use Rattle.section.specs.Row.{row_start}
+use Rattle.accept.specs.Computed.Checks.{first_bad, row_tests}
 use Rattle.accept.specs.declared.verdict.Fault.TheVariants.{Sound}
-use Rattle.accept.proofs.TableLaws.{row-refused}
-use Rattle.accept.proofs.WalkLaws.{RowsPassed, row_low, row_fine, row_inside, walk_begins, walk-goes-on, walk-stops, walk_ends}
-use Rattle.ask.proofs.WalkLaws.{StopSoFar, stop-begins, stop-goes-on, stop-ends, walk-faulty, walk-whole}
+use Rattle.accept.proofs.TableLaws.{row_refused}
+use Rattle.accept.proofs.WalkLaws.{RowsPassed, row_low, row_fine, row_inside, walk_begins, walk_goes_on, walk_stops, walk_ends}
+use Rattle.ask.proofs.WalkLaws.{StopSoFar, stop_begins, stop_goes_on, stop_ends, walk_faulty, walk_whole}
 use Rattle.ask.proofs.rows.walk_rows.Statement.{statement}
 use Rattle.ask.proofs.rows.walk_rows.Tie as tie
 
@@ -22,20 +22,20 @@ abbrev decreases-loop : tie.decreases-loop
 decreases-loop area shape code first count o order stop₀ at₀ low₀ k₀ stop at low k = count - k
 
 loop-holds : tie.Need-loop-init invariant-loop decreases-loop
-loop-holds c = (walk_begins _ _ _ _ _ c.before.requires.1, stop-begins _ _ _ _ _, refl)
+loop-holds c = (walk_begins _ _ _ _ _ c.before.requires.1, stop_begins _ _ _ _ _, refl)
 
 returns : tie.Need-returns invariant-loop decreases-loop
 returns c =
     let tried = c.before.before.before in
-    walk-faulty _ _ _ _ _ _
-    (walk-stops tried.before.before.loop.invariant.0 tried.before.loop-test.true
-    (row-refused _ _ _ _ _ (sym tried.check-row.ensures ∙ c.before.number.given.1)))
+    walk_faulty _ _ _ _ _ _
+    (walk_stops tried.before.before.loop.invariant.0 tried.before.loop-test.true
+    (row_refused _ _ _ _ _ (sym tried.check-row.ensures ∙ c.before.number.given.1)))
 
 -- the next row is sound but for its start
 parts : (c : tie.After-enum-told invariant-loop decreases-loop)
-    → firstBad
+    → first_bad
     (take 3
-    (rowTests c.before.before.before.before.before.before.args.area.now c.before.before.before.before.before.before.args.shape
+    (row_tests c.before.before.before.before.before.before.args.area.now c.before.before.before.before.before.before.args.shape
     c.before.before.before.before.before.before.args.code c.before.before.before.before.loop.at 0))
     ≡ Sound
 parts c = sym c.before.before.check-row.ensures ∙ c.enum_told.given.1
@@ -48,18 +48,18 @@ field-at-requires c κs =
 -- what was read is the row's start
 start_is : (c : tie.After-field-at invariant-loop decreases-loop)
     → c.field_at.result
-    ≡ rowStart c.before.before.before.before.before.before.before.args.area.now
+    ≡ row_start c.before.before.before.before.before.before.before.args.area.now
     c.before.before.before.before.before.before.before.args.shape.order c.before.before.before.before.before.before.before.args.code
     c.before.before.before.before.before.loop.at
-unfolding rowStart
+unfolding row_start
 start_is c = rw c.before.before.before.before.before.loop.invariant.2 at c.field_at.ensures
 
 returns-2 : tie.Need-returns-2 invariant-loop decreases-loop
 returns-2 c =
     let told = c.before.before in
     let test = told.before.before.before in
-    walk-faulty _ _ _ _ _ _
-    (walk-stops test.before.loop.invariant.0 test.loop-test.true (row_low _ _ _ _ _ (parts told) (rw (start_is c.before) at c.if1.true)))
+    walk_faulty _ _ _ _ _ _
+    (walk_stops test.before.loop.invariant.0 test.loop-test.true (row_low _ _ _ _ _ (parts told) (rw (start_is c.before) at c.if1.true)))
 
 row-length-requires : tie.Need-row-length-requires invariant-loop decreases-loop
 row-length-requires c κs =
@@ -76,9 +76,9 @@ loop-again c =
     let test = told.before.before.before in
     let inv = test.before.loop.invariant in
     let least = rw (start_is fine.before) at fine.if1.false in (
-      rw (c.row-length.ensures, start_is fine.before) (walk-goes-on inv.0 test.loop-test.true (row_fine _ _ _ _ _ (parts told) least)),
+      rw (c.row-length.ensures, start_is fine.before) (walk_goes_on inv.0 test.loop-test.true (row_fine _ _ _ _ _ (parts told) least)),
       rw c.before.stop-after.ensures
-          (stop-goes-on _ _ _ _ _ _ _ _ inv.1 _ (start_is fine.before ∙ ap (rowStart _ _ _) inv.0.place) fine.if1.false _ inv.0.place),
+          (stop_goes_on _ _ _ _ _ _ _ _ inv.1 _ (start_is fine.before ∙ ap (row_start _ _ _) inv.0.place) fine.if1.false _ inv.0.place),
       inv.2,
     )
 
@@ -86,7 +86,7 @@ returns-3 : tie.Need-returns-3 invariant-loop decreases-loop
 returns-3 c =
     let inv = c.before.loop.invariant in
     let last : c.before.loop.k ≡ c.before.before.before.args.count = omega (arith, inv.0.within, c.loop-test.false) in
-    walk-whole _ _ _ _ _ _ (walk_ends inv.0 c.loop-test.false) (stop-ends _ _ _ _ _ _ _ _ (rw last at inv.1))
+    walk_whole _ _ _ _ _ _ (walk_ends inv.0 c.loop-test.false) (stop_ends _ _ _ _ _ _ _ _ (rw last at inv.1))
 
 pub walk-rows-spec : {M : Type 1} → statement M
 walk-rows-spec =

@@ -1,7 +1,7 @@
 -- `place::value_at` takes the register or the word, by where the place is.
 -- Assumes nothing.
 use borrow.Author.Rules.{rules}
-use Rattle.caller.specs.computed.Caller.{value_of}
+use Rattle.caller.specs.Computed.Caller.{value_of}
 use Rattle.caller.proofs.place.value_at.Statement.{statement}
 use Rattle.caller.proofs.place.value_at.Tie as tie
 

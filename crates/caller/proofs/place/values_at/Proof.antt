@@ -2,16 +2,16 @@
 -- Assumes nothing.
 use borrow.Author.Rules.{rules}
 use mathlib.Core.Path.{sym, ◌∙◌}
-use Rattle.caller.specs.computed.Caller.{bothOf, values_of}
+use Rattle.caller.specs.Computed.Caller.{both_of, values_of}
 use Rattle.caller.proofs.place.values_at.Statement.{statement}
 use Rattle.caller.proofs.place.values_at.Tie as tie
 
 returns : tie.Need-returns
-unfolding bothOf values_of
+unfolding both_of values_of
 returns c = rw (sym c.before.before.value-at.ensures ∙ c.enum_told.given.1)
 
 returns-2 : tie.Need-returns-2
-unfolding bothOf values_of
+unfolding both_of values_of
 returns-2 c =
     let first = c.before.before.before in
     rw (
@@ -20,7 +20,7 @@ returns-2 c =
     )
 
 returns-3 : tie.Need-returns-3
-unfolding bothOf values_of
+unfolding both_of values_of
 returns-3 c =
     let second = c.before in
     let first = second.before.before.before in

@@ -5,12 +5,12 @@ use native.Mathlib.Omega.{arith}
 use mathlib.Core.Path.{◌≡◌}
 use Prim.Native.Nat.{◌-◌, ◌≤◌}
 use Rattle.numbers.specs.Start.{distance}
-use Rattle.section.specs.Meaning.{functionIn}
-use Rattle.lookup.specs.computed.Covering.{covers}
-use Rattle.explain.specs.computed.Coverers.{noCoverers, withIf, coverersIn}
-use Rattle.explain.specs.computed.Each.{each}
+use Rattle.section.specs.Meaning.{function_in}
+use Rattle.lookup.specs.Computed.Covering.{covers}
+use Rattle.explain.specs.Computed.Coverers.{no_coverers, with_if, coverers_in}
+use Rattle.explain.specs.Computed.Each.{each}
 use Rattle.explain.proofs.CoversLaws.{count_kept}
-use Rattle.explain.proofs.EachLaws.{each-begins, each_next, each-ends}
+use Rattle.explain.proofs.EachLaws.{each_begins, each_next, each_ends}
 use Rattle.explain.proofs.coverers.all_covering.Statement.{statement}
 use Rattle.explain.proofs.coverers.all_covering.Tie as tie
 
@@ -19,15 +19,15 @@ abbrev invariant-loop : tie.invariant-loop
 invariant-loop section layout address pc known₀ i₀ known i =
     (i ≤ layout.functions)
     × (known.count ≤ i)
-    × (each (λ known i. withIf (covers (distance address pc) (functionIn section i)) i known) (layout.functions - i) i known
-    ≡ each (λ known i. withIf (covers (distance address pc) (functionIn section i)) i known) layout.functions 0 noCoverers)
+    × (each (λ known i. with_if (covers (distance address pc) (function_in section i)) i known) (layout.functions - i) i known
+    ≡ each (λ known i. with_if (covers (distance address pc) (function_in section i)) i known) layout.functions 0 no_coverers)
 
 abbrev decreases-loop : tie.decreases-loop
 decreases-loop section layout address pc known₀ i₀ known i = layout.functions - i
 
 loop-holds : tie.Need-loop-init invariant-loop decreases-loop
-unfolding noCoverers
-loop-holds c = (omega arith, rw c.no-coverers.ensures (omega arith), each-begins _ _ c.no-coverers.ensures)
+unfolding no_coverers
+loop-holds c = (omega arith, rw c.no-coverers.ensures (omega arith), each_begins _ _ c.no-coverers.ensures)
 
 covers-pc-requires : tie.Need-covers-pc-requires invariant-loop decreases-loop
 covers-pc-requires c κs = (c.before.before.before.before.before.requires, c.if1.true)
@@ -48,11 +48,11 @@ loop-again c =
     )
 
 returns : tie.Need-returns invariant-loop decreases-loop
-unfolding coverersIn
+unfolding coverers_in
 returns c =
     let loop = c.before.before in
     let start = loop.before.before.before in
-    rw (← start.requires.layout_is) (each-ends _ _ _ c.if1.false loop.loop.invariant.2)
+    rw (← start.requires.layout_is) (each_ends _ _ _ c.if1.false loop.loop.invariant.2)
 
 pub all-covering-spec : {M : Type 1} → statement M
 all-covering-spec = tie.close (tie.spec invariant-loop decreases-loop (λ c κs. search rules) loop-holds (λ c. search rules) covers-pc-requires with-if-requires (λ c. search rules) (λ c. search rules) loop-again returns)

@@ -1,16 +1,16 @@
 -- `coverers::with_if` goes by the test.
 -- Assumes nothing.
 use borrow.Author.Rules.{rules}
-use Rattle.explain.specs.computed.Coverers.{withIf}
+use Rattle.explain.specs.Computed.Coverers.{with_if}
 use Rattle.explain.proofs.coverers.with_if.Statement.{statement}
 use Rattle.explain.proofs.coverers.with_if.Tie as tie
 
 returns : tie.Need-returns
-unfolding withIf
+unfolding with_if
 returns c = rw c.before.if1.true c.with-index.ensures
 
 returns-2 : tie.Need-returns-2
-unfolding withIf
+unfolding with_if
 returns-2 c = rw c.if1.false
 
 pub with-if-spec : {M : Type 1} → statement M

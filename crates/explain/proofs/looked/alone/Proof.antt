@@ -1,12 +1,12 @@
 -- `looked::alone` puts nobody beside.
 -- Assumes nothing.
 use borrow.Author.Rules.{rules}
-use Rattle.explain.specs.computed.Lookup.{aloneWhy}
+use Rattle.explain.specs.Computed.Lookup.{alone_why}
 use Rattle.explain.proofs.looked.alone.Statement.{statement}
 use Rattle.explain.proofs.looked.alone.Tie as tie
 
 returns : tie.Need-returns
-unfolding aloneWhy
+unfolding alone_why
 returns c = rw c.no-coverers.ensures
 
 pub alone-spec : {M : Type 1} → statement M

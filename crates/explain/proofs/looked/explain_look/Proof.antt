@@ -2,31 +2,31 @@
 -- Assumes nothing.
 use mathlib.Core.Path.{◌≡◌, ◌∙◌, ap}
 use Rattle.numbers.specs.Start.{distance}
-use Rattle.section.specs.Meaning.{functionsOf}
-use Rattle.lookup.specs.computed.Covering.{covering, coverOf}
-use Rattle.lookup.specs.inner.Search.{searchOf}
-use Rattle.lookup.proofs.LookLaws.{accepted-header}
-use Rattle.lookup.proofs.SearchLaws.{search-finds-covering}
-use Rattle.explain.specs.computed.Lookup.{lookedOf}
+use Rattle.section.specs.Meaning.{functions_of}
+use Rattle.lookup.specs.Computed.Covering.{covering, cover_of}
+use Rattle.lookup.specs.Inner.Search.{search_of}
+use Rattle.lookup.proofs.LookLaws.{accepted_header}
+use Rattle.lookup.proofs.SearchLaws.{search_finds_covering}
+use Rattle.explain.specs.Computed.Lookup.{looked_of}
 use Rattle.explain.proofs.looked.explain_look.Statement.{statement}
 use Rattle.explain.proofs.looked.explain_look.Tie as tie
 
 find-requires : tie.Need-find-requires
-find-requires c κs = accepted-header c.before.requires
+find-requires c κs = accepted_header c.before.requires
 
 found : (c : tie.After-find)
     → c.find.result.cover
-    ≡ coverOf (covering (distance c.before.before.args.address c.before.before.args.pc) (functionsOf c.before.before.args.section.now))
-unfolding searchOf
+    ≡ cover_of (covering (distance c.before.before.args.address c.before.before.args.pc) (functions_of c.before.before.args.section.now))
+unfolding search_of
 found c =
     let start = c.before.before in
-    rw start.requires.layout_is at (ap (λ r. r.cover) c.find.ensures) ∙ search-finds-covering _ start.requires.accepted _
+    rw start.requires.layout_is at (ap (λ r. r.cover) c.find.ensures) ∙ search_finds_covering _ start.requires.accepted _
 
 by-cover-requires : tie.Need-by-cover-requires
 by-cover-requires c κs = (c.before.before.requires, found c)
 
 returns : tie.Need-returns
-unfolding lookedOf
+unfolding looked_of
 returns c = rw (← found c.before) c.by-cover.ensures
 
 pub explain-look-spec : {M : Type 1} → statement M

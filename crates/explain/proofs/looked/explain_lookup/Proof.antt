@@ -2,13 +2,13 @@
 -- Assumes nothing.
 use borrow.Author.Rules.{rules}
 use mathlib.Core.Path.{sym, ◌∙◌}
-use Rattle.accept.proofs.AcceptedLaws.{accepted-laws}
-use Rattle.explain.specs.computed.Lookup.{whyAfter, lookupWhy}
+use Rattle.accept.proofs.AcceptedLaws.{accepted_laws}
+use Rattle.explain.specs.Computed.Lookup.{why_after, lookup_why}
 use Rattle.explain.proofs.looked.explain_lookup.Statement.{statement}
 use Rattle.explain.proofs.looked.explain_lookup.Tie as tie
 
 layout-at-requires : tie.Need-layout-at-requires
-layout-at-requires c κs = (accepted-laws _ (sym c.before.before.check.ensures ∙ c.enum_told.given.1)).header.rule1
+layout-at-requires c κs = (accepted_laws _ (sym c.before.before.check.ensures ∙ c.enum_told.given.1)).header.rule1
 
 explain-look-requires : tie.Need-explain-look-requires
 explain-look-requires c κs =
@@ -16,13 +16,13 @@ explain-look-requires c κs =
     record { accepted = sym told.before.before.check.ensures ∙ told.enum_told.given.1; layout_is = c.layout-at.ensures }
 
 returns : tie.Need-returns
-unfolding whyAfter lookupWhy
+unfolding why_after lookup_why
 returns c =
     let told = c.before.before in
     rw (sym told.before.before.check.ensures ∙ told.number.given.1) (rw c.no-coverers.ensures)
 
 returns-2 : tie.Need-returns-2
-unfolding whyAfter lookupWhy
+unfolding why_after lookup_why
 returns-2 c =
     let told = c.before.before.before in
     rw (sym told.before.before.check.ensures ∙ told.enum_told.given.1) (rw c.before.explain-look.ensures)

@@ -6,25 +6,25 @@ use mathlib.Core.Path.{◌≡◌, ◌∙◌, ap}
 use Prim.Native.Nat.{◌<◌, ◌≤◌, ◌-◌, ◌^◌}
 use lib.ListN.{length, take, drop}
 use Rattle.numbers.specs.Start.{distance}
-use Rattle.numbers.specs.inner.Held.{Held, Near}
-use Rattle.section.specs.Meaning.{areaOf, shape_of, entryIn, functionStart, functionIn}
+use Rattle.numbers.specs.Inner.Held.{Held, Near}
+use Rattle.section.specs.Meaning.{area_of, shape_of, entry_in, function_start, function_in}
 use Rattle.section.proofs.AreaLaws.{to_the_end}
-use Rattle.accept.proofs.AcceptedLaws.{area-inside}
-use Rattle.accept.proofs.RowLaws.{entry-sound}
-use Rattle.lookup.specs.computed.Rows.{rowFor}
-use Rattle.lookup.proofs.LookLaws.{accepted-header, past-start, offset-held, fault-free}
-use Rattle.lookup.proofs.TableLaws.{header-obeys, start-held}
-use Rattle.explain.specs.computed.Lookup.{inFunction}
+use Rattle.accept.proofs.AcceptedLaws.{area_inside}
+use Rattle.accept.proofs.RowLaws.{entry_sound}
+use Rattle.lookup.specs.Computed.Rows.{row_for}
+use Rattle.lookup.proofs.LookLaws.{accepted_header, past_start_lem, offset_held, fault_free}
+use Rattle.lookup.proofs.TableLaws.{header_obeys, start_held}
+use Rattle.explain.specs.Computed.Lookup.{in_function}
 use Rattle.explain.proofs.looked.in_function.Statement.{statement}
 use Rattle.explain.proofs.looked.in_function.Tie as tie
 
 order-at-requires : tie.Need-order-at-requires
-order-at-requires c κs = (header-obeys (accepted-header c.before.requires.section)).rule1
+order-at-requires c κs = (header_obeys (accepted_header c.before.requires.section)).rule1
 
 entry-in-requires : tie.Need-entry-in-requires
 entry-in-requires c κs =
     let pre = c.before.before.requires in
-    (record { header = accepted-header pre.section; order_is = c.order-at.ensures }, pre.inside)
+    (record { header = accepted_header pre.section; order_is = c.order-at.ensures }, pre.inside)
 
 -- ---- d and the start of function i, as they are held
 
@@ -33,31 +33,31 @@ near : (c : tie.After-near-of)
 near c = record { is = c.Near-of.ensures }
 
 held : (c : tie.After-start-of)
-    → Held (functionStart c.before.before.before.before.before.args.section.now c.before.before.before.before.before.args.i)
+    → Held (function_start c.before.before.before.before.before.args.section.now c.before.before.before.before.before.args.i)
     c.start_of_lem.result
 held c =
     let entry = c.before.before in
-    start-held (accepted-header entry.before.before.before.requires.section) _ entry.entry_in.ensures c.start_of_lem.ensures.1
+    start_held (accepted_header entry.before.before.before.requires.section) _ entry.entry_in.ensures c.start_of_lem.ensures.1
 
 small : (c : tie.After-entry-in)
-    → (entryIn c.before.before.before.args.section.now c.before.before.before.args.i).size < 2 ^ 32
+    → (entry_in c.before.before.before.args.section.now c.before.before.before.args.i).size < 2 ^ 32
 small c = rw (← c.entry_in.ensures) (omega (arith, c.entry_in.type-inv))
 
 sub-past : tie.Need-overflow-sub-past
 sub-past c =
     let entry = c.before.before in
-    past-start _ _ entry.before.before.before.requires.within (held c) (near c.before) (small entry)
+    past_start_lem _ _ entry.before.before.before.requires.within (held c) (near c.before) (small entry)
 
 block-offset-requires : tie.Need-block-offset-requires
 block-offset-requires c κs =
     let entry = c.before.before in
     let start = entry.before.before.before in
-    rw entry.entry_in.ensures ((entry-sound _ _ _).0 (fault-free start.requires)).repeat
+    rw entry.entry_in.ensures ((entry_sound _ _ _).0 (fault_free start.requires)).repeat
 
 -- ---- the entry and its rows
 
 area-within : (c : tie.Start) → c.args.layout.area ≤ length c.args.section.now
-area-within c = rw c.requires.section.layout_is (area-inside (header-obeys (accepted-header c.requires.section)))
+area-within c = rw c.requires.section.layout_is (area_inside (header_obeys (accepted_header c.requires.section)))
 
 sub-area : tie.Need-overflow-sub-area
 sub-area c = area-within c.before.before.before.before.before.before.before
@@ -65,11 +65,11 @@ sub-area c = area-within c.before.before.before.before.before.before.before
 part-area-start : tie.Need-slice-bounds-area-start
 part-area-start c = let within = area-within c.before.before.before.before.before.before.before in search rules
 
-area-is : (c : tie.Start)
+area_is : (c : tie.Start)
     → take (length c.args.section.now - c.args.layout.area) (drop c.args.layout.area c.args.section.now)
-    ≡ areaOf c.args.section.now
-unfolding areaOf
-area-is c = to_the_end _ c.args.layout.area ∙ ap (λ l. drop l.area c.args.section.now) c.requires.section.layout_is
+    ≡ area_of c.args.section.now
+unfolding area_of
+area_is c = to_the_end _ c.args.layout.area ∙ ap (λ l. drop l.area c.args.section.now) c.requires.section.layout_is
 
 shape_is : (c : tie.After-shape-of)
     → c.shape-of.result ≡ shape_of c.before.before.before.before.before.before.before.args.section.now
@@ -81,13 +81,13 @@ scan-rows-requires c κs =
     let shape = c.before in
     let entry = shape.before.before.before.before in
     let start = entry.before.before.before in
-    rw (area-is start, shape_is shape, entry.entry_in.ensures) (fault-free start.requires)
+    rw (area_is start, shape_is shape, entry.entry_in.ensures) (fault_free start.requires)
 
 by-scan-requires : tie.Need-by-scan-requires
 by-scan-requires c κs = scan-rows-requires c.before κs
 
 returns : tie.Need-returns
-unfolding inFunction rowFor functionIn
+unfolding in_function row_for function_in
 returns c =
     let scanned = c.before in
     let shape = scanned.before.before in
@@ -95,8 +95,8 @@ returns c =
     let starts = blocked.before in
     let entry = starts.before.before in
     let start = entry.before.before.before in
-    let offset = offset-held _ _ start.requires.within (held starts) (near starts.before) (small entry) in
-    rw (scanned.scan-rows.ensures, area-is start, shape_is shape, blocked.block-offset.ensures, entry.entry_in.ensures, ← offset)
+    let offset = offset_held _ _ start.requires.within (held starts) (near starts.before) (small entry) in
+    rw (scanned.scan-rows.ensures, area_is start, shape_is shape, blocked.block-offset.ensures, entry.entry_in.ensures, ← offset)
     at c.by-scan.ensures
 
 pub in-function-spec : {M : Type 1} → statement M

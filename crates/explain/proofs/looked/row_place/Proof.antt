@@ -5,20 +5,20 @@ use native.Mathlib.Numerals.{add-one}
 use native.Mathlib.Omega.{arith}
 use mathlib.Core.Path.{◌≡◌, refl}
 use Prim.Native.Nat.{◌-◌, ◌≤◌}
-use Rattle.section.specs.Row.{rowPlace}
-use Rattle.section.specs.inner.Reading.{Readable}
-use Rattle.explain.proofs.PlaceLaws.{place-next}
+use Rattle.section.specs.Row.{row_place}
+use Rattle.section.specs.Inner.Reading.{Readable}
+use Rattle.explain.proofs.PlaceLaws.{place_next}
 use Rattle.explain.proofs.looked.row_place.Statement.{statement}
 use Rattle.explain.proofs.looked.row_place.Tie as tie
 
 abbrev invariant-loop : tie.invariant-loop
-invariant-loop area code first k at₀ j₀ at j = (j ≤ k) × (at ≡ rowPlace area code first j)
+invariant-loop area code first k at₀ j₀ at j = (j ≤ k) × (at ≡ row_place area code first j)
 
 abbrev decreases-loop : tie.decreases-loop
 decreases-loop area code first k at₀ j₀ at j = k - j
 
 loop-holds : tie.Need-loop-init invariant-loop decreases-loop
-unfolding rowPlace
+unfolding row_place
 loop-holds c = (omega arith, refl)
 
 readable : (c : tie.In-loop invariant-loop decreases-loop)
@@ -34,7 +34,7 @@ add_at c = rw c.row-length.ensures (omega (arith, (readable c.before).whole))
 loop-again : tie.Need-loop-preserved invariant-loop decreases-loop
 loop-again c =
     let turn = c.before in
-    (omega (arith, turn.loop-test.true), rw (c.row-length.ensures, add-one turn.before.loop.j) (place-next _ _ _ _ turn.before.loop.invariant.1))
+    (omega (arith, turn.loop-test.true), rw (c.row-length.ensures, add-one turn.before.loop.j) (place_next _ _ _ _ turn.before.loop.invariant.1))
 
 returns : tie.Need-returns invariant-loop decreases-loop
 returns c = let same : c.before.loop.j ≡ c.before.before.before.args.k = omega (arith, c.loop-test.false, c.before.loop.invariant.0) in rw (← same) c.before.loop.invariant.1

@@ -5,14 +5,14 @@ use native.Mathlib.Omega.{arith}
 use mathlib.Core.Path.{◌≡◌, refl, ◌∙◌, ap}
 use Prim.Native.Nat.{◌-◌, ◌^◌, ◌≤◌}
 use lib.IntN.{ℤ}
-use Rattle.numbers.specs.inner.Held.{Near}
-use Rattle.section.specs.Meaning.{entryIn, functionStart}
-use Rattle.explain.specs.computed.Each.{each}
-use Rattle.explain.specs.computed.Nearest.{tried, nearestIn}
-use Rattle.explain.specs.inner.Keys.{nearestOf}
+use Rattle.numbers.specs.Inner.Held.{Near}
+use Rattle.section.specs.Meaning.{entry_in, function_start}
+use Rattle.explain.specs.Computed.Each.{each}
+use Rattle.explain.specs.Computed.Nearest.{tried, nearest_in}
+use Rattle.explain.specs.Inner.Keys.{nearest_of}
 use Rattle.explain.specs.declared.why.Nearest.TheVariants.{Nothing}
-use Rattle.explain.proofs.EachLaws.{each-begins, each_next, each-ends}
-use Rattle.explain.proofs.KeyLaws.{better-small}
+use Rattle.explain.proofs.EachLaws.{each_begins, each_next, each_ends}
+use Rattle.explain.proofs.KeyLaws.{better_small}
 use Rattle.explain.proofs.nearby.best_in.Statement.{statement}
 use Rattle.explain.proofs.nearby.best_in.Tie as tie
 
@@ -22,15 +22,15 @@ invariant-loop section layout order side d best₀ i₀ best i =
     × (best.key ≤ 2 ^ 34)
     × ((z : ℤ)
     → Near z d
-    → each (λ known i. tried side z (functionStart section i) (entryIn section i).size i known) (layout.functions - i) i (nearestOf side best)
-    ≡ each (λ known i. tried side z (functionStart section i) (entryIn section i).size i known) layout.functions 0 Nothing)
+    → each (λ known i. tried side z (function_start section i) (entry_in section i).size i known) (layout.functions - i) i (nearest_of side best)
+    ≡ each (λ known i. tried side z (function_start section i) (entry_in section i).size i known) layout.functions 0 Nothing)
 
 abbrev decreases-loop : tie.decreases-loop
 decreases-loop section layout order side d best₀ i₀ best i = layout.functions - i
 
 loop-holds : tie.Need-loop-init invariant-loop decreases-loop
-unfolding nearestOf
-loop-holds c = (omega arith, omega arith, λ z near. each-begins _ _ refl)
+unfolding nearest_of
+loop-holds c = (omega arith, omega arith, λ z near. each_begins _ _ refl)
 
 key-at-requires : tie.Need-key-at-requires invariant-loop decreases-loop
 key-at-requires c κs = (c.before.before.before.before.requires.0, c.if1.true)
@@ -42,19 +42,19 @@ loop-again c =
     let loop = test.before.before in
     let bounded = loop.loop.invariant.1 in (
       omega (arith, test.if1.true),
-      rw c.better-of.ensures (better-small _ _ _ bounded (keyed.key-at.ensures.1 loop.before.before.requires.1)),
+      rw c.better-of.ensures (better_small _ _ _ bounded (keyed.key-at.ensures.1 loop.before.before.requires.1)),
       λ z near.
           each_next _ _ _ test.if1.true
-          (ap (nearestOf _) c.better-of.ensures ∙ keyed.key-at.ensures.0 z _ near bounded)
+          (ap (nearest_of _) c.better-of.ensures ∙ keyed.key-at.ensures.0 z _ near bounded)
           (loop.loop.invariant.2 z near),
     )
 
 returns : tie.Need-returns invariant-loop decreases-loop
-unfolding nearestIn
+unfolding nearest_in
 returns c =
     let loop = c.before.before in
     let start = loop.before.before in (
-      λ z near. rw start.requires.0.header.layout_is at (each-ends _ _ _ c.if1.false (loop.loop.invariant.2 z near)),
+      λ z near. rw start.requires.0.header.layout_is at (each_ends _ _ _ c.if1.false (loop.loop.invariant.2 z near)),
       loop.loop.invariant.1,
     )
 

@@ -1,7 +1,7 @@
 -- `nearby::better_of` keeps the best key, and the lower index where two are the same.
 -- Assumes nothing.
 use borrow.Author.Tests.{lt-ltb, le-ltb}
-use Rattle.explain.specs.inner.Keys.{better}
+use Rattle.explain.specs.Inner.Keys.{better}
 use Rattle.explain.proofs.nearby.better_of.Statement.{statement}
 use Rattle.explain.proofs.nearby.better_of.Tie as tie
 

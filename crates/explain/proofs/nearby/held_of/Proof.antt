@@ -2,7 +2,7 @@
 -- Assumes nothing.
 use borrow.Author.Rules.{rules}
 use native.Mathlib.Omega.{arith}
-use Rattle.explain.specs.inner.Keys.{held_of}
+use Rattle.explain.specs.Inner.Keys.{held_of}
 use Rattle.explain.proofs.nearby.held_of.Statement.{statement}
 use Rattle.explain.proofs.nearby.held_of.Tie as tie
 

@@ -3,16 +3,16 @@
 use borrow.Author.Rules.{rules}
 use native.Mathlib.Omega.{arith}
 use Prim.Native.Nat.{◌<◌, ◌^◌}
-use Rattle.section.specs.Meaning.{entryIn}
-use Rattle.lookup.proofs.TableLaws.{start-held}
-use Rattle.explain.proofs.KeyLaws.{key-small, key-tried}
+use Rattle.section.specs.Meaning.{entry_in}
+use Rattle.lookup.proofs.TableLaws.{start_held}
+use Rattle.explain.proofs.KeyLaws.{key_small, key_tried}
 use Rattle.explain.proofs.nearby.key_at.Statement.{statement}
 use Rattle.explain.proofs.nearby.key_at.Tie as tie
 
 key-of-requires : tie.Need-key-of-requires
 key-of-requires c κs = c.start_of_lem.ensures.1.room
 
-small : (c : tie.After-entry-in) → (entryIn c.before.before.args.section.now c.before.before.args.i).size < 2 ^ 32
+small : (c : tie.After-entry-in) → (entry_in c.before.before.args.section.now c.before.before.args.i).size < 2 ^ 32
 small c = rw (← c.entry_in.ensures) (omega (arith, c.entry_in.type-inv))
 
 returns : tie.Need-returns
@@ -20,9 +20,9 @@ returns c =
     let started = c.before in
     let entry = started.before in
     let start = entry.before.before in
-    let held = start-held start.requires.0.header _ entry.entry_in.ensures started.start_of_lem.ensures.1 in (
-      λ z best near bounded. rw (c.key_of.ensures, entry.entry_in.ensures) (key-tried _ held near (small entry) best bounded _ _),
-      λ le. rw c.key_of.ensures (key-small _ _ _ _ le),
+    let held = start_held start.requires.0.header _ entry.entry_in.ensures started.start_of_lem.ensures.1 in (
+      λ z best near bounded. rw (c.key_of.ensures, entry.entry_in.ensures) (key_tried _ held near (small entry) best bounded _ _),
+      λ le. rw c.key_of.ensures (key_small _ _ _ _ le),
     )
 
 pub key-at-spec : {M : Type 1} → statement M

@@ -2,17 +2,17 @@
 -- Assumes nothing.
 use borrow.Author.Rules.{rules}
 use mathlib.Core.Path.{◌∙◌}
-use Rattle.lookup.proofs.TableLaws.{header-obeys}
-use Rattle.explain.proofs.KeyLaws.{near-small}
+use Rattle.lookup.proofs.TableLaws.{header_obeys}
+use Rattle.explain.proofs.KeyLaws.{near_small}
 use Rattle.explain.proofs.nearby.nearest_at.Statement.{statement}
 use Rattle.explain.proofs.nearby.nearest_at.Tie as tie
 
 order-at-requires : tie.Need-order-at-requires
-order-at-requires c κs = (header-obeys c.before.requires).rule1
+order-at-requires c κs = (header_obeys c.before.requires).rule1
 
 best-in-requires : tie.Need-best-in-requires
 best-in-requires c κs =
-    (record { header = c.before.before.before.requires; order_is = c.before.order-at.ensures }, rw c.Near-of.ensures (near-small _))
+    (record { header = c.before.before.before.requires; order_is = c.before.order-at.ensures }, rw c.Near-of.ensures (near_small _))
 
 nearest-of-requires : tie.Need-nearest-of-requires
 nearest-of-requires c κs = c.best-in.ensures.1

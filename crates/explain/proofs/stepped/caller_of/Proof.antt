@@ -1,12 +1,12 @@
 -- `stepped::caller_of` puts the caller's registers together.
 -- Assumes nothing.
 use borrow.Author.Rules.{rules}
-use Rattle.explain.specs.computed.Step.{callerWhy}
+use Rattle.explain.specs.Computed.Step.{caller_why}
 use Rattle.explain.proofs.stepped.caller_of.Statement.{statement}
 use Rattle.explain.proofs.stepped.caller_of.Tie as tie
 
 returns : tie.Need-returns
-unfolding callerWhy
+unfolding caller_why
 returns c = rw (c.before.clear.ensures, c.caller-sp.ensures)
 
 pub caller-of-spec : {M : Type 1} → statement M

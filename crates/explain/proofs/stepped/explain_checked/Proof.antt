@@ -3,7 +3,7 @@
 use borrow.Author.Rules.{rules}
 use mathlib.Core.Path.{◌≡◌, sym, ◌∙◌}
 use Rattle.section.specs.Meaning.{shape_of}
-use Rattle.explain.specs.computed.Step.{askedWhy}
+use Rattle.explain.specs.Computed.Step.{asked_why}
 use Rattle.explain.proofs.stepped.explain_checked.Statement.{statement}
 use Rattle.explain.proofs.stepped.explain_checked.Tie as tie
 
@@ -13,11 +13,11 @@ unfolding shape_of
 shape_is c = rw c.before.before.before.before.before.before.before.before.requires.layout_is at c.shape-of.ensures
 
 returns : tie.Need-returns
-unfolding askedWhy
+unfolding asked_why
 returns c = rw (sym c.before.before.before.asked_of.ensures ∙ c.before.enum_told.given.1) c.unlooked.ensures
 
 returns-2 : tie.Need-returns-2
-unfolding askedWhy
+unfolding asked_why
 returns-2 c =
     let shaped = c.before in
     let looked = shaped.before in

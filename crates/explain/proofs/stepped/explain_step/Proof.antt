@@ -3,13 +3,13 @@
 use borrow.Author.Rules.{rules}
 use borrow.Author.Tests.{not-true, not-false}
 use mathlib.Core.Path.{sym, ◌∙◌}
-use Rattle.accept.proofs.AcceptedLaws.{accepted-laws}
-use Rattle.explain.specs.computed.Step.{checkedWhy, stepWhy}
+use Rattle.accept.proofs.AcceptedLaws.{accepted_laws}
+use Rattle.explain.specs.Computed.Step.{checked_why, step_why}
 use Rattle.explain.proofs.stepped.explain_step.Statement.{statement}
 use Rattle.explain.proofs.stepped.explain_step.Tie as tie
 
 layout-at-requires : tie.Need-layout-at-requires
-layout-at-requires c κs = (accepted-laws _ (sym c.before.before.check.ensures ∙ c.enum_told.given.1)).header.rule1
+layout-at-requires c κs = (accepted_laws _ (sym c.before.before.check.ensures ∙ c.enum_told.given.1)).header.rule1
 
 explain-checked-requires : tie.Need-explain-checked-requires
 explain-checked-requires c κs =
@@ -17,27 +17,27 @@ explain-checked-requires c κs =
     record { accepted = sym told.before.before.check.ensures ∙ told.enum_told.given.1; layout_is = c.layout-at.ensures }
 
 returns : tie.Need-returns
-unfolding stepWhy
+unfolding step_why
 returns c =
     let test = c.before in
-    rw (sym test.before.window-fits.ensures ∙ not-true _ test.if1.true, stepWhy) c.unlooked.ensures
+    rw (sym test.before.window-fits.ensures ∙ not-true _ test.if1.true, step_why) c.unlooked.ensures
 
 returns-2 : tie.Need-returns-2
-unfolding stepWhy checkedWhy
+unfolding step_why checked_why
 returns-2 c =
     let told = c.before.before in
     let checked = told.before.before in
     let test = checked.before in
-    rw (sym test.before.window-fits.ensures ∙ not-false _ test.if1.false, stepWhy)
+    rw (sym test.before.window-fits.ensures ∙ not-false _ test.if1.false, step_why)
     (rw (sym checked.check.ensures ∙ told.number.given.1) c.unlooked2.ensures)
 
 returns-3 : tie.Need-returns-3
-unfolding stepWhy checkedWhy
+unfolding step_why checked_why
 returns-3 c =
     let told = c.before.before in
     let checked = told.before.before in
     let test = checked.before in
-    rw (sym test.before.window-fits.ensures ∙ not-false _ test.if1.false, stepWhy)
+    rw (sym test.before.window-fits.ensures ∙ not-false _ test.if1.false, step_why)
     (rw (sym checked.check.ensures ∙ told.enum_told.given.1) c.explain-checked.ensures)
 
 pub explain-step-spec : {M : Type 1} → statement M

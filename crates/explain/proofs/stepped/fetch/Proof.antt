@@ -1,16 +1,16 @@
 -- `stepped::fetch` reads a saved place by its kind.
 -- Assumes nothing.
 use borrow.Author.Rules.{rules}
-use Rattle.explain.specs.computed.Step.{fetchedOf}
+use Rattle.explain.specs.Computed.Step.{fetched_of}
 use Rattle.explain.proofs.stepped.fetch.Statement.{statement}
 use Rattle.explain.proofs.stepped.fetch.Tie as tie
 
 returns : tie.Need-returns
-unfolding fetchedOf
+unfolding fetched_of
 returns c = rw c.enum_told.given.1
 
 returns-2 : tie.Need-returns-2
-unfolding fetchedOf
+unfolding fetched_of
 returns-2 c =
     let place = c.before.before.before in
     let spot = place.before.before in

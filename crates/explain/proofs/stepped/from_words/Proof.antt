@@ -1,16 +1,16 @@
 -- `stepped::from_words` tries RA's word, and then FP's.
 -- Assumes nothing.
 use borrow.Author.Rules.{rules}
-use Rattle.explain.specs.computed.Step.{fromWords}
+use Rattle.explain.specs.Computed.Step.{from_words}
 use Rattle.explain.proofs.stepped.from_words.Statement.{statement}
 use Rattle.explain.proofs.stepped.from_words.Tie as tie
 
 returns : tie.Need-returns
-unfolding fromWords
+unfolding from_words
 returns c = rw c.before.before.ra.given.1 c.outside.ensures
 
 returns-2 : tie.Need-returns-2
-unfolding fromWords
+unfolding from_words
 returns-2 c = rw c.before.before.ra2.given.1 c.with-ra.ensures
 
 pub from-words-spec : {M : Type 1} → statement M

@@ -1,12 +1,12 @@
 -- `stepped::outside` names the word and the window.
 -- Assumes nothing.
 use borrow.Author.Rules.{rules}
-use Rattle.explain.specs.computed.Step.{outsideWhy}
+use Rattle.explain.specs.Computed.Step.{outside_why}
 use Rattle.explain.proofs.stepped.outside.Statement.{statement}
 use Rattle.explain.proofs.stepped.outside.Tie as tie
 
 returns : tie.Need-returns
-unfolding outsideWhy
+unfolding outside_why
 returns c = search rules
 
 pub outside-spec : {M : Type 1} → statement M

@@ -1,12 +1,12 @@
 -- `stepped::unlooked` puts nobody beside.
 -- Assumes nothing.
 use borrow.Author.Rules.{rules}
-use Rattle.explain.specs.computed.Step.{unlookedWhy}
+use Rattle.explain.specs.Computed.Step.{unlooked_why}
 use Rattle.explain.proofs.stepped.unlooked.Statement.{statement}
 use Rattle.explain.proofs.stepped.unlooked.Tie as tie
 
 returns : tie.Need-returns
-unfolding unlookedWhy
+unfolding unlooked_why
 returns c = rw c.no-coverers.ensures
 
 pub unlooked-spec : {M : Type 1} → statement M

@@ -1,16 +1,16 @@
 -- `stepped::with_ra` tries FP's word.
 -- Assumes nothing.
 use borrow.Author.Rules.{rules}
-use Rattle.explain.specs.computed.Step.{withRa}
+use Rattle.explain.specs.Computed.Step.{with_ra}
 use Rattle.explain.proofs.stepped.with_ra.Statement.{statement}
 use Rattle.explain.proofs.stepped.with_ra.Tie as tie
 
 returns : tie.Need-returns
-unfolding withRa
+unfolding with_ra
 returns c = rw c.before.before.fp.given.1 c.outside.ensures
 
 returns-2 : tie.Need-returns-2
-unfolding withRa
+unfolding with_ra
 returns-2 c = rw c.before.before.fp2.given.1 c.caller-of.ensures
 
 pub with-ra-spec : {M : Type 1} → statement M

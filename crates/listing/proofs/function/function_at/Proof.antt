@@ -2,23 +2,23 @@
 -- Assumes nothing.
 use borrow.Author.Rules.{rules}
 use mathlib.Core.Path.{sym, ◌∙◌}
-use Rattle.listing.specs.Functions.{describedBy, describedOf}
-use Rattle.listing.proofs.FunctionLaws.{header-obeys}
+use Rattle.listing.specs.Functions.{described_by, described_of}
+use Rattle.listing.proofs.FunctionLaws.{header_obeys}
 use Rattle.listing.proofs.function.function_at.Statement.{statement}
 use Rattle.listing.proofs.function.function_at.Tie as tie
 
 layout-at-requires : tie.Need-layout-at-requires
-layout-at-requires c κs = (header-obeys _ (sym c.before.before.check-header.ensures ∙ c.enum_told.given.1)).rule1
+layout-at-requires c κs = (header_obeys _ (sym c.before.before.check-header.ensures ∙ c.enum_told.given.1)).rule1
 
 described-in-requires : tie.Need-described-in-requires
 described-in-requires c κs = (sym c.before.before.before.check-header.ensures ∙ c.before.enum_told.given.1, c.layout-at.ensures)
 
 returns : tie.Need-returns
-unfolding describedOf describedBy
+unfolding described_of described_by
 returns c = rw (sym c.before.before.before.check-header.ensures ∙ c.before.number.given.1)
 
 returns-2 : tie.Need-returns-2
-unfolding describedOf describedBy
+unfolding described_of described_by
 returns-2 c =
     let told = c.before.before in
     rw (sym told.before.before.check-header.ensures ∙ told.enum_told.given.1) c.described-in.ensures

@@ -2,7 +2,7 @@
 -- Assumes nothing.
 use borrow.Author.Rules.{rules}
 use mathlib.Core.Path.{◌∙◌}
-use Rattle.listing.proofs.LineLaws.{no_row, one-row}
+use Rattle.listing.proofs.LineLaws.{no_row, one_row}
 use Rattle.listing.proofs.lines.next_line.Statement.{statement}
 use Rattle.listing.proofs.lines.next_line.Tie as tie
 
@@ -14,7 +14,7 @@ returns c =
 returns-2 : tie.Need-returns-2
 returns-2 c =
     let yielded = c.before.before in
-    one-row _ _ _ _ yielded.before.before.row-turn.ensures yielded.next.given.1
+    one_row _ _ _ _ yielded.before.before.row-turn.ensures yielded.next.given.1
 
 pub next-line-spec : {M : Type 1} → statement M
 next-line-spec =

@@ -2,7 +2,7 @@
 -- Assumes nothing.
 use borrow.Author.Rules.{rules}
 use mathlib.Core.Path.{refl}
-use Rattle.listing.specs.computed.Lines.{stopped}
+use Rattle.listing.specs.Computed.Lines.{stopped}
 use Rattle.listing.proofs.lines.stopped_at.Statement.{statement}
 use Rattle.listing.proofs.lines.stopped_at.Tie as tie
 

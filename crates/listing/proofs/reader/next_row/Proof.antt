@@ -45,7 +45,7 @@ use denote.Triple.Entry.{Vals, on_entry}
 use denote.Triple.Spec.{Meets, triple_of}
 use denote.Triple.Table.{entered, cited}
 use denote.Triple.Walked.{says, Stays, stay_ref, walk_of, Goes-ref, Walks, ends_at, walked, walk_Meets}
-use Rattle.listing.specs.computed.Turns.{rowTurn}
+use Rattle.listing.specs.Computed.Turns.{row_turn}
 use Rattle.listing.specs.declared.reader.RowReader.{RowReader}
 use Rattle.listing.specs.declared.rows.RowTurn.{RowTurn}
 use Rattle.listing.specs.contracts.reader.RowReader as T
@@ -95,7 +95,7 @@ module _ {M : Type 1} {𝓤 : Ura M} (𝓛 : Logic 𝓤) (at_mem : Memory → SP
   h' t = record { section = h.section; place = t.place }
 
   abbrev Said : RowTurn → Type 0
-  Said t = t ≡ rowTurn h.section.now h.place
+  Said t = t ≡ row_turn h.section.now h.place
 
   abbrev D : Declared
   D = T.the_type (α κ')

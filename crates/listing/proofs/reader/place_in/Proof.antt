@@ -1,7 +1,7 @@
 -- `reader::place_in` is right by what is said of the index.
 -- Assumes nothing.
 use borrow.Author.Rules.{rules}
-use Rattle.listing.specs.computed.Reader.{place_in}
+use Rattle.listing.specs.Computed.Reader.{place_in}
 use Rattle.listing.proofs.reader.place_in.Statement.{statement}
 use Rattle.listing.proofs.reader.place_in.Tie as tie
 

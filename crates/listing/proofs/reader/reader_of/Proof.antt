@@ -40,7 +40,7 @@ use denote.Triple.Spec.{Meets, triple_of}
 use denote.Triple.Table.{entered, cited}
 use denote.Triple.Walked.{says, Stays, stay_none_slice, stay_none, walk_of, Goes-none_slice, Goes-none, Walks, ends_at, walked, walk_Meets}
 use denote.Exit.{yes}
-use Rattle.listing.specs.computed.Reader.{placeOf}
+use Rattle.listing.specs.Computed.Reader.{place_of}
 use Rattle.listing.specs.declared.reader.RowReader.{RowReader}
 use Rattle.listing.specs.declared.rows.RowPlace.{RowPlace}
 use Rattle.listing.specs.contracts.reader.RowReader as T
@@ -97,7 +97,7 @@ module _ {M : Type 1} {𝓤 : Ura M} (𝓛 : Logic 𝓤) (mem : Memory → SProp
   Own = (ShrSlice (named 0) κ u8).own_val s (v ∷ [])
 
   abbrev Said : RowPlace → Type 0
-  Said p = p ≡ placeOf s.now n
+  Said p = p ≡ place_of s.now n
 
   abbrev Post : Val → SProp 𝓤
   Post = (walk_of 𝓛 here.ended stayed (here.clauses 𝓛 mem run)).post (((κ, tt), (q, tt), tt, xs, at), tt)

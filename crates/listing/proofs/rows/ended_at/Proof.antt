@@ -1,7 +1,7 @@
 -- `rows::ended_at` sets the number of rows left to 0.
 -- Assumes nothing.
 use mathlib.Core.Path.{refl}
-use Rattle.listing.specs.computed.Turns.{ended}
+use Rattle.listing.specs.Computed.Turns.{ended}
 use Rattle.listing.proofs.rows.ended_at.Statement.{statement}
 use Rattle.listing.proofs.rows.ended_at.Tie as tie
 

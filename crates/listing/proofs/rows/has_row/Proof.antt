@@ -2,7 +2,7 @@
 -- Assumes nothing.
 use borrow.Author.Rules.{rules}
 use borrow.Author.Tests.{le-leb, lt-leb}
-use Rattle.listing.specs.computed.Turns.{has_row}
+use Rattle.listing.specs.Computed.Turns.{has_row}
 use Rattle.listing.proofs.rows.has_row.Statement.{statement}
 use Rattle.listing.proofs.rows.has_row.Tie as tie
 

@@ -3,7 +3,7 @@
 use borrow.Author.Rules.{rules}
 use mathlib.Core.Path.{sym, ◌∙◌}
 use Rattle.section.specs.Meaning.{block_of}
-use Rattle.lookup.specs.computed.Rows.{in_block}
+use Rattle.lookup.specs.Computed.Rows.{in_block}
 use Rattle.lookup.proofs.look.block_offset.Statement.{statement}
 use Rattle.lookup.proofs.look.block_offset.Tie as tie
 

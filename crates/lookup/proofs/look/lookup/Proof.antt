@@ -2,13 +2,13 @@
 -- Assumes nothing.
 use borrow.Author.Rules.{rules}
 use mathlib.Core.Path.{sym, ◌∙◌}
-use Rattle.accept.proofs.AcceptedLaws.{accepted-laws}
-use Rattle.lookup.specs.computed.Answers.{answerAfter, lookupOf}
+use Rattle.accept.proofs.AcceptedLaws.{accepted_laws}
+use Rattle.lookup.specs.Computed.Answers.{answer_after, lookup_of}
 use Rattle.lookup.proofs.look.lookup.Statement.{statement}
 use Rattle.lookup.proofs.look.lookup.Tie as tie
 
 layout-at-requires : tie.Need-layout-at-requires
-layout-at-requires c κs = (accepted-laws _ (sym c.before.before.check.ensures ∙ c.enum_told.given.1)).header.rule1
+layout-at-requires c κs = (accepted_laws _ (sym c.before.before.check.ensures ∙ c.enum_told.given.1)).header.rule1
 
 look-requires : tie.Need-look-requires
 look-requires c κs =
@@ -16,11 +16,11 @@ look-requires c κs =
     record { accepted = sym told.before.before.check.ensures ∙ told.enum_told.given.1; layout_is = c.layout-at.ensures }
 
 returns : tie.Need-returns
-unfolding answerAfter lookupOf
+unfolding answer_after lookup_of
 returns c = rw (sym c.before.before.before.check.ensures ∙ c.before.number.given.1)
 
 returns-2 : tie.Need-returns-2
-unfolding answerAfter lookupOf
+unfolding answer_after lookup_of
 returns-2 c =
     let told = c.before.before in
     rw (sym told.before.before.check.ensures ∙ told.enum_told.given.1) c.look.ensures

@@ -1,7 +1,7 @@
 -- `look::with_row` names the function beside its row, or alone.
 -- Assumes nothing.
 use borrow.Author.Rules.{rules}
-use Rattle.lookup.specs.computed.Answers.{with_row}
+use Rattle.lookup.specs.Computed.Answers.{with_row}
 use Rattle.lookup.proofs.look.with_row.Statement.{statement}
 use Rattle.lookup.proofs.look.with_row.Tie as tie
 

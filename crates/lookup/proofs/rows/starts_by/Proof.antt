@@ -1,13 +1,13 @@
 -- `rows::starts_by` compares a row's start with o.
 -- Assumes nothing.
 use borrow.Author.Rules.{rules}
-use Rattle.section.specs.Row.{rowStart}
-use Rattle.lookup.specs.inner.Search.{startsBy}
+use Rattle.section.specs.Row.{row_start}
+use Rattle.lookup.specs.Inner.Search.{starts_by}
 use Rattle.lookup.proofs.rows.starts_by.Statement.{statement}
 use Rattle.lookup.proofs.rows.starts_by.Tie as tie
 
 returns : tie.Need-returns
-unfolding startsBy rowStart
+unfolding starts_by row_start
 returns c = rw c.row-start-at.ensures
 
 pub starts-by-spec : {M : Type 1} → statement M

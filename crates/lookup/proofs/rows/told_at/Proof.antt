@@ -3,8 +3,8 @@
 use borrow.Author.Rules.{rules}
 use native.Mathlib.Omega.{arith}
 use mathlib.Core.Path.{◌≡◌, ◌∙◌, ap}
-use Rattle.section.specs.Row.{rowLength}
-use Rattle.lookup.specs.inner.Search.{toldBy}
+use Rattle.section.specs.Row.{row_length}
+use Rattle.lookup.specs.Inner.Search.{told_by}
 use Rattle.lookup.proofs.rows.told_at.Statement.{statement}
 use Rattle.lookup.proofs.rows.told_at.Tie as tie
 
@@ -12,10 +12,10 @@ returns : tie.Need-returns
 returns c =
     let start = c.before.before.before.before in
     let same : start.args.known.info ≡ c.before.before.info-at.result = omega (arith, c.if1.true) in
-    start.requires.2 ∙ ap (toldBy start.args.code) (same ∙ c.before.before.info-at.ensures)
+    start.requires.2 ∙ ap (told_by start.args.code) (same ∙ c.before.before.info-at.ensures)
 
 returns-2 : tie.Need-returns-2
-unfolding toldBy rowLength
+unfolding told_by row_length
 returns-2 c = rw (c.row-length.ensures, c.before.before.before.info-at.ensures)
 
 pub told-at-spec : {M : Type 1} → statement M

@@ -2,8 +2,8 @@
 -- Assumes nothing.
 use borrow.Author.Rules.{rules}
 use native.Mathlib.Omega.{arith}
-use Rattle.section.specs.Meaning.{functionIn}
-use Rattle.lookup.specs.computed.Covering.{covers}
+use Rattle.section.specs.Meaning.{function_in}
+use Rattle.lookup.specs.Computed.Covering.{covers}
 use Rattle.lookup.proofs.search.covers_at.Statement.{statement}
 use Rattle.lookup.proofs.search.covers_at.Tie as tie
 
@@ -11,7 +11,7 @@ add_start : tie.Need-overflow-add-start
 add_start c = omega (arith, c.rank-at.ensures.room)
 
 returns : tie.Need-returns
-unfolding covers functionIn
+unfolding covers function_in
 returns c z near = rw c.before.size-at.ensures at (c.is_Within.ensures _ z c.before.before.rank-at.ensures near)
 
 pub covers-at-spec : {M : Type 1} → statement M

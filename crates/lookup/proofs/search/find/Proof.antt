@@ -2,17 +2,17 @@
 -- Assumes nothing.
 use borrow.Author.Rules.{rules}
 use Rattle.numbers.specs.Start.{distance}
-use Rattle.numbers.specs.inner.Held.{Near}
-use Rattle.section.proofs.ListedLaws.{functions-length}
+use Rattle.numbers.specs.Inner.Held.{Near}
+use Rattle.section.proofs.ListedLaws.{functions_length}
 use Rattle.lookup.specs.Halving.{compared}
-use Rattle.lookup.specs.inner.Requires.{TableOf}
-use Rattle.lookup.specs.inner.Search.{coverBy, searchOf}
-use Rattle.lookup.proofs.TableLaws.{header-obeys}
+use Rattle.lookup.specs.Inner.Requires.{TableOf}
+use Rattle.lookup.specs.Inner.Search.{cover_by, search_of}
+use Rattle.lookup.proofs.TableLaws.{header_obeys}
 use Rattle.lookup.proofs.search.find.Statement.{statement}
 use Rattle.lookup.proofs.search.find.Tie as tie
 
 order-at-requires : tie.Need-order-at-requires
-order-at-requires c κs = (header-obeys c.before.requires).rule1
+order-at-requires c κs = (header_obeys c.before.requires).rule1
 
 -- d holds the distance
 held : (c : tie.After-near-of)
@@ -34,7 +34,7 @@ scan-requires : tie.Need-scan-requires
 scan-requires c κs = table c.before
 
 returns : tie.Need-returns
-unfolding searchOf coverBy compared
+unfolding search_of cover_by compared
 returns c =
     let halved = c.before in
     let near = held halved.before.before in
@@ -42,12 +42,12 @@ returns c =
     (rw (c.landed-on.ensures _ near, halved.halve.ensures.0 _ near))
 
 returns-2 : tie.Need-returns-2
-unfolding searchOf coverBy compared
+unfolding search_of cover_by compared
 returns-2 c =
     let scanned = c.before in
     let near = held scanned.before.before in
     rw scanned.before.if1.false
-    (rw (scanned.scan.ensures _ near, functions-length, ← scanned.before.before.before.before.before.requires.layout_is))
+    (rw (scanned.scan.ensures _ near, functions_length, ← scanned.before.before.before.before.before.requires.layout_is))
 
 pub find_spec : {M : Type 1} → statement M
 find_spec =

@@ -5,7 +5,7 @@ use native.Mathlib.Omega.{arith}
 use mathlib.Core.Path.{sym, ◌∙◌}
 use Prim.Native.Nat.{◌≤◌, ◌<◌}
 use Rattle.section.specs.Header.{layout_of}
-use Rattle.lookup.proofs.LandedLaws.{landed-nowhere, landed-inside, landed-outside}
+use Rattle.lookup.proofs.LandedLaws.{landed_nowhere, landed_inside, landed_outside}
 use Rattle.lookup.proofs.search.landed_on.Statement.{statement}
 use Rattle.lookup.proofs.search.landed_on.Tie as tie
 
@@ -16,17 +16,17 @@ within : (c : tie.Start) → c.args.low ≤ (layout_of c.args.section.now).funct
 within c = rw c.requires.0.header.layout_is at c.requires.1
 
 returns : tie.Need-returns
-returns c z near = sym (landed-nowhere _ z _ c.if1.true)
+returns c z near = sym (landed_nowhere _ z _ c.if1.true)
 
 returns-2 : tie.Need-returns-2
 returns-2 c z near =
     let else = c.before.before in
-    sym (landed-inside _ z _ (above else) (within else.before.before) (sym (c.before.covers_at.ensures z near) ∙ c.if2.true))
+    sym (landed_inside _ z _ (above else) (within else.before.before) (sym (c.before.covers_at.ensures z near) ∙ c.if2.true))
 
 returns-3 : tie.Need-returns-3
 returns-3 c z near =
     let else = c.before.before in
-    sym (landed-outside _ z _ (above else) (within else.before.before) (sym (c.before.covers_at.ensures z near) ∙ c.if2.false))
+    sym (landed_outside _ z _ (above else) (within else.before.before) (sym (c.before.covers_at.ensures z near) ∙ c.if2.false))
 
 pub landed-on-spec : {M : Type 1} → statement M
 landed-on-spec =

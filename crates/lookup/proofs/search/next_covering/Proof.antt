@@ -6,11 +6,11 @@ use native.Mathlib.Omega.{arith}
 use mathlib.Core.Path.{◌≡◌, refl, sym, ◌∙◌}
 use Prim.Native.Nat.{◌-◌, ◌≤◌}
 use lib.IntN.{ℤ}
-use Rattle.numbers.specs.inner.Held.{Near}
-use Rattle.section.specs.Meaning.{functionIn}
-use Rattle.lookup.specs.computed.Covering.{covers}
-use Rattle.lookup.specs.inner.Search.{firstWhere}
-use Rattle.lookup.proofs.ScanLaws.{first-here, first_on, first-end}
+use Rattle.numbers.specs.Inner.Held.{Near}
+use Rattle.section.specs.Meaning.{function_in}
+use Rattle.lookup.specs.Computed.Covering.{covers}
+use Rattle.lookup.specs.Inner.Search.{first_where}
+use Rattle.lookup.proofs.ScanLaws.{first_here, first_on, first_end}
 use Rattle.lookup.proofs.search.next_covering.Statement.{statement}
 use Rattle.lookup.proofs.search.next_covering.Tie as tie
 
@@ -19,8 +19,8 @@ invariant-loop section layout order d from i₀ i =
     (i ≤ layout.functions)
     × ((z : ℤ)
     → Near z d
-    → firstWhere (λ i. covers z (functionIn section i)) (layout.functions - i) i
-    ≡ firstWhere (λ i. covers z (functionIn section i)) (layout.functions - from) from)
+    → first_where (λ i. covers z (function_in section i)) (layout.functions - i) i
+    ≡ first_where (λ i. covers z (function_in section i)) (layout.functions - from) from)
 
 abbrev decreases-loop : tie.decreases-loop
 decreases-loop section layout order d from i₀ i = layout.functions - i
@@ -32,7 +32,7 @@ returns : tie.Need-returns invariant-loop decreases-loop
 returns c =
     let test = c.before.before in
     let loop = test.before.before in (
-      λ z near. sym (first-here _ _ _ test.if1.true (sym (c.before.covers_at.ensures z near) ∙ c.if2.true)) ∙ loop.loop.invariant.1 z near,
+      λ z near. sym (first_here _ _ _ test.if1.true (sym (c.before.covers_at.ensures z near) ∙ c.if2.true)) ∙ loop.loop.invariant.1 z near,
       omega (arith, test.if1.true),
     )
 
@@ -49,7 +49,7 @@ loop-again c =
 returns-2 : tie.Need-returns-2 invariant-loop decreases-loop
 returns-2 c =
     let loop = c.before.before in
-    (λ z near. sym (first-end _ _ _ c.if1.false) ∙ loop.loop.invariant.1 z near, loop.loop.invariant.0)
+    (λ z near. sym (first_end _ _ _ c.if1.false) ∙ loop.loop.invariant.1 z near, loop.loop.invariant.0)
 
 pub next-covering-spec : {M : Type 1} → statement M
 next-covering-spec =

@@ -3,13 +3,13 @@
 use borrow.Author.Rules.{rules}
 use native.Mathlib.Omega.{arith}
 use mathlib.Core.Path.{sym}
-use Rattle.section.specs.Meaning.{functionIn}
-use Rattle.lookup.proofs.TableLaws.{header-obeys}
+use Rattle.section.specs.Meaning.{function_in}
+use Rattle.lookup.proofs.TableLaws.{header_obeys}
 use Rattle.lookup.proofs.search.past_in.Statement.{statement}
 use Rattle.lookup.proofs.search.past_in.Tie as tie
 
 order-at-requires : tie.Need-order-at-requires
-order-at-requires c κs = (header-obeys c.before.requires.0).rule1
+order-at-requires c κs = (header_obeys c.before.requires.0).rule1
 
 rank-at-requires : tie.Need-rank-at-requires
 rank-at-requires c κs = let start = c.before.before in (record { header = start.requires.0; order_is = c.order-at.ensures }, start.requires.1)
@@ -24,7 +24,7 @@ size-at-requires c κs =
     (record { header = start.requires.0; order_is = ordered.order-at.ensures }, start.requires.1)
 
 returns : tie.Need-returns
-unfolding functionIn
+unfolding function_in
 returns c =
     let near = c.before in
     let sized = near.before in

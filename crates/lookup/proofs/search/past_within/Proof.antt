@@ -3,7 +3,7 @@
 use borrow.Author.Rules.{rules}
 use mathlib.Core.Path.{◌∙◌, ap}
 use Rattle.lookup.specs.declared.search.Past.TheVariants.{By}
-use Rattle.lookup.proofs.HeldTests.{past_by, past-none}
+use Rattle.lookup.proofs.HeldTests.{past_by, past_none}
 use Rattle.lookup.proofs.search.past_within.Statement.{statement}
 use Rattle.lookup.proofs.search.past_within.Tie as tie
 
@@ -14,7 +14,7 @@ returns c f z held near size =
 
 returns-2 : tie.Need-returns-2
 returns-2 c f z held near size =
-    past-none f held near (rw size (search rules)) (rw (c.before.past-start.ensures, ← size) at c.if1.false)
+    past_none f held near (rw size (search rules)) (rw (c.before.past-start.ensures, ← size) at c.if1.false)
 
 pub past-within-spec : {M : Type 1} → statement M
 past-within-spec = tie.close (tie.spec (λ c κs. search rules) returns returns-2)

@@ -6,26 +6,26 @@ use native.Mathlib.Omega.{arith}
 use mathlib.Core.Path.{◌≡◌, sym, ◌∙◌}
 use Prim.Native.Nat.{suc, ◌-◌, ◌<◌}
 use lib.IntN.{ℤ}
-use Rattle.numbers.specs.inner.Held.{Near}
+use Rattle.numbers.specs.Inner.Held.{Near}
 use Rattle.section.specs.Header.{layout_of}
-use Rattle.section.specs.Meaning.{functionIn}
-use Rattle.lookup.specs.computed.Covering.{covers}
-use Rattle.lookup.specs.inner.Search.{firstWhere}
-use Rattle.lookup.proofs.ScanLaws.{scan-none, scan-one, scan-two}
+use Rattle.section.specs.Meaning.{function_in}
+use Rattle.lookup.specs.Computed.Covering.{covers}
+use Rattle.lookup.specs.Inner.Search.{first_where}
+use Rattle.lookup.proofs.ScanLaws.{scan_none, scan_one, scan_two}
 use Rattle.lookup.proofs.search.scan.Statement.{statement}
 use Rattle.lookup.proofs.search.scan.Tie as tie
 
 -- what was found first, and next
 first : (c : tie.After-next-covering) (z : ℤ)
     → Near z c.before.before.args.d
-    → firstWhere (λ i. covers z (functionIn c.before.before.args.section.now i)) ((layout_of c.before.before.args.section.now).functions - 0) 0
+    → first_where (λ i. covers z (function_in c.before.before.args.section.now i)) ((layout_of c.before.before.args.section.now).functions - 0) 0
     ≡ c.next-covering.result
 first c z near = sym (rw c.before.before.requires.header.layout_is at (c.next-covering.ensures.0 z near))
 
 returns : tie.Need-returns
 returns c z near =
     let start = c.before.before.before.before in
-    sym (scan-none _ z (first c.before.before z near ∙ (rw start.requires.header.layout_is at c.if1.true)))
+    sym (scan_none _ z (first c.before.before z near ∙ (rw start.requires.header.layout_is at c.if1.true)))
 
 below : (c : tie.Else1)
     → c.before.before.next-covering.result < (layout_of c.before.before.before.before.args.section.now).functions
@@ -35,7 +35,7 @@ below c =
 
 second : (c : tie.After-next-covering2) (z : ℤ)
     → Near z c.before.before.before.before.before.args.d
-    → firstWhere (λ i. covers z (functionIn c.before.before.before.before.before.args.section.now i))
+    → first_where (λ i. covers z (function_in c.before.before.before.before.before.args.section.now i))
     ((layout_of c.before.before.before.before.before.args.section.now).functions - suc c.before.before.before.next-covering.result)
     (suc c.before.before.before.next-covering.result)
     ≡ c.next-covering2.result
@@ -49,7 +49,7 @@ returns-2 c z near =
     let found = next.before in
     let start = found.before.before.before.before in
     let none = rw start.requires.header.layout_is at c.if2.true in
-    sym (scan-one _ z _ (first found.before.before z near) (below found) (second next z near ∙ none))
+    sym (scan_one _ z _ (first found.before.before z near) (below found) (second next z near ∙ none))
 
 returns-3 : tie.Need-returns-3
 returns-3 c z near =
@@ -58,7 +58,7 @@ returns-3 c z near =
     let start = found.before.before.before.before in
     let less : next.next-covering2.result < (layout_of start.args.section.now).functions =
     rw (← start.requires.header.layout_is) (omega (arith, next.next-covering2.ensures.1, c.if2.false)) in
-    sym (scan-two _ z _ _ (first found.before.before z near) (below found) (second next z near) less)
+    sym (scan_two _ z _ _ (first found.before.before z near) (below found) (second next z near) less)
 
 pub scan-spec : {M : Type 1} → statement M
 scan-spec =

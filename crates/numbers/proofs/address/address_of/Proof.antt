@@ -3,7 +3,7 @@
 use mathlib.Core.Path.{◌∙◌, sym}
 use borrow.Author.Rules.{rules}
 use native.Mathlib.Omega.{arith}
-use Rattle.numbers.proofs.AddressLaws.{up_at, up-outside, down-at, down-outside}
+use Rattle.numbers.proofs.AddressLaws.{up_at, up_outside, down_at, down_outside}
 use Rattle.numbers.proofs.address.address_of.Statement.{statement}
 use Rattle.numbers.proofs.address.address_of.Tie as tie
 
@@ -15,17 +15,17 @@ returns c =
 returns-2 : tie.Need-returns-2
 returns-2 c =
     let k = c.before.before in
-    down-at _ _ (sym k.before.before.Shift-of.ensures ∙ k.k2.given.1) c.if2.true (omega arith)
+    down_at _ _ (sym k.before.before.Shift-of.ensures ∙ k.k2.given.1) c.if2.true (omega arith)
 
 returns-3 : tie.Need-returns-3
 returns-3 c =
     let k = c.before.before in
-    up-outside _ _ (sym k.before.before.Shift-of.ensures ∙ k.k.given.1) (omega arith)
+    up_outside _ _ (sym k.before.before.Shift-of.ensures ∙ k.k.given.1) (omega arith)
 
 returns-4 : tie.Need-returns-4
 returns-4 c =
     let k = c.before.before in
-    down-outside _ _ (sym k.before.before.Shift-of.ensures ∙ k.k2.given.1) c.if2.false
+    down_outside _ _ (sym k.before.before.Shift-of.ensures ∙ k.k2.given.1) c.if2.false
 
 pub address-of-spec : {M : Type 1} → statement M
 address-of-spec =

@@ -3,7 +3,7 @@
 use mathlib.Core.Path.{◌≡◌, ◌∙◌}
 use borrow.Author.Rules.{rules}
 use native.Mathlib.Omega.{arith}
-use Rattle.numbers.proofs.FieldLaws.{byte-in}
+use Rattle.numbers.proofs.FieldLaws.{byte_in}
 use Rattle.numbers.proofs.field.field_at.Statement.{statement}
 use Rattle.numbers.proofs.field.field_at.Tie as tie
 
@@ -23,7 +23,7 @@ returns : tie.Need-returns
 returns c =
     let start = c.before.before.before in
     rw c.before.match.keys1
-    (c.u8-at.ensures ∙ byte-in _ _ start.args.order (rw c.before.match.keys1 at start.requires.1))
+    (c.u8-at.ensures ∙ byte_in _ _ start.args.order (rw c.before.match.keys1 at start.requires.1))
 
 returns-2 : tie.Need-returns-2
 returns-2 c = rw c.before.match.keys2 c.u16-at.ensures

@@ -7,7 +7,7 @@ use native.Mathlib.Omega.{arith}
 use lib.Dec.{lit≤}
 use lib.ListN.{length}
 use Rattle.numbers.specs.declared.field.Number.TheVariants.{Is}
-use Rattle.numbers.proofs.FieldLaws.{no-width, number-outside, number_is}
+use Rattle.numbers.proofs.FieldLaws.{no_width, number_outside, number_is}
 use Rattle.numbers.proofs.field.number_at.Statement.{statement}
 use Rattle.numbers.proofs.field.number_at.Tie as tie
 
@@ -17,13 +17,13 @@ inside : (c : tie.Else3) → c.before.before.before.before.before.args.at + 2 ^ 
 inside c = omega arith
 
 returns : tie.Need-returns
-returns c = no-width _ _ _ _ c.if1.true
+returns c = no_width _ _ _ _ c.if1.true
 
 returns-2 : tie.Need-returns-2
-returns-2 c = number-outside _ _ _ _ c.before.before.if1.false (omega arith)
+returns-2 c = number_outside _ _ _ _ c.before.before.if1.false (omega arith)
 
 returns-3 : tie.Need-returns-3
-returns-3 c = number-outside _ _ _ _ c.before.before.before.if1.false (omega arith)
+returns-3 c = number_outside _ _ _ _ c.before.before.before.if1.false (omega arith)
 
 u64-at-requires : tie.Need-u64-at-requires
 u64-at-requires c κs = rw c.if4.true at (inside c.before)

@@ -8,20 +8,20 @@ use lib.IntN.{ℤ, pos, ◌-ℤ◌}
 use mir.Syntax.{w64}
 use mir.Val.{SFits, to_z, of_z}
 use mir.Facts.{to_z-of_z}
-use Rattle.numbers.specs.inner.Held.{Held}
-use Rattle.numbers.proofs.HeldLaws.{held-less}
-use Rattle.numbers.proofs.SignedLaws.{as-signed, less-fits}
+use Rattle.numbers.specs.Inner.Held.{Held}
+use Rattle.numbers.proofs.HeldLaws.{held_less}
+use Rattle.numbers.proofs.SignedLaws.{as_signed, less_fits}
 use Rattle.numbers.proofs.held.start_at.Statement.{statement}
 use Rattle.numbers.proofs.held.start_at.Tie as tie
 
 -- what the code computes fits, and is the start
 fits : (h : ℕ) → h ≤ 3 * 2 ^ 32 → SFits w64 (to_z w64 h -ℤ pos 4294967296)
-fits h room = rw (as-signed h (omega arith)) (less-fits h 4294967296 (omega arith) (omega arith))
+fits h room = rw (as_signed h (omega arith)) (less_fits h 4294967296 (omega arith) (omega arith))
 
 start_is : (h : ℕ) {z : ℤ} → Held z h → to_z w64 (of_z w64 (to_z w64 h -ℤ pos 4294967296)) ≡ z
 start_is h held =
     let room = held.room in
-    rw (to_z-of_z (fits h room), as-signed h (omega arith)) (held-less held)
+    rw (to_z-of_z (fits h room), as_signed h (omega arith)) (held_less held)
 
 sub-t6 : tie.Need-overflow-sub-t6
 sub-t6 c = fits _ c.held_start.ensures.1.room

@@ -3,7 +3,7 @@
 use mathlib.Core.Path.{sym, ap}
 use borrow.Author.Rules.{rules}
 use native.Mathlib.Omega.{arith}
-use Rattle.numbers.specs.inner.Shift.{shift_of}
+use Rattle.numbers.specs.Inner.Shift.{shift_of}
 use Rattle.numbers.proofs.SignedLaws.{Below, Above, below, above}
 use Rattle.numbers.proofs.offset.shift_of.Statement.{statement}
 use Rattle.numbers.proofs.offset.shift_of.Tie as tie

@@ -1,12 +1,12 @@
 -- `header::layout_at` puts together what the header's two halves say.
 -- Assumes nothing.
 use borrow.Author.Rules.{rules}
-use Rattle.section.specs.Header.{layoutFrom, layout_of}
+use Rattle.section.specs.Header.{layout_from, layout_of}
 use Rattle.section.proofs.header.layout_at.Statement.{statement}
 use Rattle.section.proofs.header.layout_at.Tie as tie
 
 returns : tie.Need-returns
-unfolding layoutFrom layout_of
+unfolding layout_from layout_of
 returns c =
     let relative = c.before in
     let sorted = relative.before in

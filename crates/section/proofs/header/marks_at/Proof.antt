@@ -1,12 +1,12 @@
 -- `header::marks_at` reads each byte at its place.
 -- Assumes nothing.
 use borrow.Author.Rules.{rules}
-use Rattle.section.specs.Header.{marksOf}
+use Rattle.section.specs.Header.{marks_of}
 use Rattle.section.proofs.header.marks_at.Statement.{statement}
 use Rattle.section.proofs.header.marks_at.Tie as tie
 
 returns : tie.Need-returns
-unfolding marksOf
+unfolding marks_of
 returns c =
     let ra = c.before in
     let fp = ra.before in

@@ -1,12 +1,12 @@
 -- `header::sizes_at` reads each number at its place.
 -- Assumes nothing.
 use borrow.Author.Rules.{rules}
-use Rattle.section.specs.Header.{sizesOf}
+use Rattle.section.specs.Header.{sizes_of}
 use Rattle.section.proofs.header.sizes_at.Statement.{statement}
 use Rattle.section.proofs.header.sizes_at.Tie as tie
 
 returns : tie.Need-returns
-unfolding sizesOf
+unfolding sizes_of
 returns c =
     let table = c.before in
     let bytes = table.before in

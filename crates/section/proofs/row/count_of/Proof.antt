@@ -1,12 +1,12 @@
 -- `row::count_of` is the definition.
 -- Assumes nothing.
 use mathlib.Core.Path.{refl}
-use Rattle.section.specs.Row.{countOf}
+use Rattle.section.specs.Row.{count_of}
 use Rattle.section.proofs.row.count_of.Statement.{statement}
 use Rattle.section.proofs.row.count_of.Tie as tie
 
 returns : tie.Need-returns
-unfolding countOf
+unfolding count_of
 returns c = refl
 
 pub count-of-spec : {M : Type 1} → statement M

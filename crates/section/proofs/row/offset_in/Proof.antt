@@ -2,7 +2,7 @@
 -- Assumes nothing.
 use native.Mathlib.Omega.{arith}
 use borrow.Author.Rules.{rules}
-use Rattle.section.specs.Row.{offsetIn}
+use Rattle.section.specs.Row.{offset_in}
 use Rattle.section.proofs.row.offset_in.Statement.{statement}
 use Rattle.section.proofs.row.offset_in.Tie as tie
 
@@ -16,7 +16,7 @@ offset-at-requires : tie.Need-offset-at-requires
 offset-at-requires c κs = rw c.width_of_lem.ensures c.before.before.requires
 
 returns : tie.Need-returns
-unfolding offsetIn
+unfolding offset_in
 returns c = rw c.before.width_of_lem.ensures at c.offset_at.ensures
 
 pub offset-in-spec : {M : Type 1} → statement M

@@ -4,17 +4,17 @@ use native.Mathlib.Omega.{arith}
 use borrow.Author.Rules.{rules}
 use mathlib.Core.Path.{◌≡◌}
 use Prim.Native.Nat.{◌*◌, ◌≤◌}
-use Rattle.section.specs.Row.{offsetsLength}
-use Rattle.section.proofs.OffsetLaws.{size_below, offsets-below}
+use Rattle.section.specs.Row.{offsets_length}
+use Rattle.section.proofs.OffsetLaws.{size_below, offsets_below}
 use Rattle.section.proofs.row.offsets_length.Statement.{statement}
 use Rattle.section.proofs.row.offsets_length.Tie as tie
 
-product : (c : tie.After-width-of) → c.before.before.count_of.result * c.width_of_lem.result ≡ offsetsLength c.before.before.before.args.info
-unfolding offsetsLength
+product : (c : tie.After-width-of) → c.before.before.count_of.result * c.width_of_lem.result ≡ offsets_length c.before.before.before.args.info
+unfolding offsets_length
 product c = rw (c.before.before.count_of.ensures, c.width_of_lem.ensures, c.before.offset-size-of.ensures)
 
 small : (c : tie.After-width-of) → c.before.before.count_of.result * c.width_of_lem.result ≤ 120
-small c = rw (product c) (offsets-below _)
+small c = rw (product c) (offsets_below _)
 
 width-of-requires : tie.Need-width-of-requires
 width-of-requires c κs = rw c.offset-size-of.ensures (size_below _)

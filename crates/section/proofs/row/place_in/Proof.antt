@@ -5,19 +5,19 @@ use borrow.Author.Rules.{rules}
 use mathlib.Core.Path.{ap}
 use Prim.Native.Nat.{◌<◌}
 use borrow.Author.Tests.{lt-ltb, le-ltb}
-use Rattle.section.specs.Row.{countOf, place_in}
+use Rattle.section.specs.Row.{count_of, place_in}
 use Rattle.section.specs.declared.row.Place.TheVariants.{AtOffset}
-use Rattle.section.proofs.OffsetLaws.{offset-within}
+use Rattle.section.proofs.OffsetLaws.{offset_within_lem}
 use Rattle.section.proofs.row.place_in.Statement.{statement}
 use Rattle.section.proofs.row.place_in.Tie as tie
 
-announced : (c : tie.Then1) → c.before.before.before.args.k < countOf c.before.before.before.args.info
+announced : (c : tie.Then1) → c.before.before.before.args.k < count_of c.before.before.before.args.info
 announced c = rw c.before.count_of.ensures at c.if1.true
 
 offset-in-requires : tie.Need-offset-in-requires
 offset-in-requires c κs =
     let start = c.before.before.before.before in
-    rw c.offset-size-of.ensures (start.requires.size, omega (arith, start.requires.whole, offset-within _ _ (announced c.before)))
+    rw c.offset-size-of.ensures (start.requires.size, omega (arith, start.requires.whole, offset_within_lem _ _ (announced c.before)))
 
 returns : tie.Need-returns
 unfolding place_in

@@ -1,12 +1,12 @@
 -- `row::row_length` adds the start, the info byte and the offsets.
 -- Assumes nothing.
 use borrow.Author.Rules.{rules}
-use Rattle.section.specs.Row.{rowLength}
+use Rattle.section.specs.Row.{row_length}
 use Rattle.section.proofs.row.row_length.Statement.{statement}
 use Rattle.section.proofs.row.row_length.Tie as tie
 
 returns : tie.Need-returns
-unfolding rowLength
+unfolding row_length
 returns c =
     rw (c.before.before.width_of_lem.ensures, c.offsets-length.ensures.0, c.before.info-at.ensures)
 

@@ -4,8 +4,8 @@ use borrow.Author.Rules.{rules}
 use native.Mathlib.Omega.{arith}
 use mathlib.Core.Path.{ap}
 use lib.ListN.{length}
-use Rattle.listing.specs.computed.Lines.{linesLeft}
-use Rattle.listing.proofs.LinesLeft.{yield-line}
+use Rattle.listing.specs.Computed.Lines.{lines_left}
+use Rattle.listing.proofs.LinesLeft.{yield_line}
 use Rattle.sframe.proofs.list.show_lines.Statement.{statement}
 use Rattle.sframe.proofs.list.show_lines.Tie as tie
 
@@ -13,12 +13,12 @@ abbrev invariant-loop : tie.invariant-loop
 invariant-loop section abi cursor₀ cursor = Unit {0}
 
 abbrev decreases-loop : tie.decreases-loop
-decreases-loop section abi cursor₀ cursor = length (linesLeft section cursor)
+decreases-loop section abi cursor₀ cursor = length (lines_left section cursor)
 
 loop-less : tie.Need-loop-smaller invariant-loop decreases-loop
 loop-less c =
     let yielded = c.before.before.before in
-    let one = ap length (yield-line _ _ _ _ yielded.before.before.next-line.ensures yielded.next.given.1) in
+    let one = ap length (yield_line _ _ _ _ yielded.before.before.next-line.ensures yielded.next.given.1) in
     omega arith
 
 pub show-lines-spec : {M : Type 1} → statement M

@@ -2,12 +2,12 @@
 -- Assumes nothing.
 use borrow.Author.Rules.{rules}
 use mathlib.Core.Path.{sym, ◌∙◌}
-use Rattle.accept.proofs.AcceptedLaws.{accepted-laws}
+use Rattle.accept.proofs.AcceptedLaws.{accepted_laws}
 use Rattle.sframe.proofs.show.show_verdict.Statement.{statement}
 use Rattle.sframe.proofs.show.show_verdict.Tie as tie
 
 layout-at-requires : tie.Need-layout-at-requires
-layout-at-requires c κs = (accepted-laws _ (sym c.before.before.check.ensures ∙ c.enum_told.given.1)).header.rule1
+layout-at-requires c κs = (accepted_laws _ (sym c.before.before.check.ensures ∙ c.enum_told.given.1)).header.rule1
 
 pub show-verdict-spec : {M : Type 1} → statement M
 show-verdict-spec =

@@ -4,12 +4,12 @@ use borrow.Author.Rules.{rules}
 use mir.Facts.{to_z-of_z}
 use mir.Syntax.{w64}
 use mir.Val.{SFits}
-use Rattle.suntimpani.specs.Flat.{flatRow}
+use Rattle.suntimpani.specs.Flat.{flat_row}
 use Rattle.suntimpani.proofs.flat.flat_row.Statement.{statement}
 use Rattle.suntimpani.proofs.flat.flat_row.Tie as tie
 
 returns : tie.Need-returns
-unfolding flatRow
+unfolding flat_row
 returns c =
     let last = c.before.before.before in
     let kind = last.before.before in

@@ -4,12 +4,12 @@ use borrow.Author.Rules.{rules}
 use mir.Facts.{to_z-of_z}
 use mir.Syntax.{w64}
 use mir.Val.{SFits}
-use Rattle.suntimpani.specs.Flat.{flatFacts}
+use Rattle.suntimpani.specs.Flat.{flat_facts}
 use Rattle.suntimpani.proofs.functions.flat_facts.Statement.{statement}
 use Rattle.suntimpani.proofs.functions.flat_facts.Tie as tie
 
 returns : tie.Need-returns
-unfolding flatFacts
+unfolding flat_facts
 returns c =
     let size = c.before in
     let kind = size.before in

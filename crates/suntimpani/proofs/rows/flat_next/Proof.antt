@@ -4,12 +4,12 @@ use borrow.Author.Rules.{rules}
 use mir.Facts.{to_z-of_z}
 use mir.Syntax.{w64}
 use mir.Val.{SFits}
-use Rattle.suntimpani.specs.FlatRows.{flatNext}
+use Rattle.suntimpani.specs.FlatRows.{flat_next}
 use Rattle.suntimpani.proofs.rows.flat_next.Statement.{statement}
 use Rattle.suntimpani.proofs.rows.flat_next.Tie as tie
 
 returns : tie.Need-returns
-unfolding flatNext
+unfolding flat_next
 returns c =
     let rest = c.before.before.before in
     let last = rest.before in

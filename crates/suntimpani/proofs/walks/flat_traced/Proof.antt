@@ -1,29 +1,29 @@
 -- `flat::flat_traced` gives each ending its number.
 -- Assumes nothing.
 use borrow.Author.Rules.{rules}
-use Rattle.trace.specs.Numbers.{numberOfTraceCause, endingNumber, endingIndexes}
-use Rattle.suntimpani.specs.Flat.{flatTraced}
+use Rattle.trace.specs.Numbers.{number_of_trace_cause, ending_number, ending_indexes}
+use Rattle.suntimpani.specs.Flat.{flat_traced}
 use Rattle.suntimpani.proofs.walks.flat_traced.Statement.{statement}
 use Rattle.suntimpani.proofs.walks.flat_traced.Tie as tie
 
 returns : tie.Need-returns
-unfolding endingNumber numberOfTraceCause endingIndexes flatTraced
+unfolding ending_number number_of_trace_cause ending_indexes flat_traced
 returns c = rw c.enum_told.given.1
 
 returns-2 : tie.Need-returns-2
-unfolding endingNumber numberOfTraceCause endingIndexes flatTraced
+unfolding ending_number number_of_trace_cause ending_indexes flat_traced
 returns-2 c = rw c.enum-told2.given.1
 
 returns-3 : tie.Need-returns-3
-unfolding endingNumber numberOfTraceCause endingIndexes flatTraced
+unfolding ending_number number_of_trace_cause ending_indexes flat_traced
 returns-3 c = rw c.before.ending.given.1
 
 returns-4 : tie.Need-returns-4
-unfolding endingNumber numberOfTraceCause endingIndexes flatTraced
+unfolding ending_number number_of_trace_cause ending_indexes flat_traced
 returns-4 c = rw c.before.ending2.given.1
 
 returns-5 : tie.Need-returns-5
-unfolding endingNumber numberOfTraceCause endingIndexes flatTraced
+unfolding ending_number number_of_trace_cause ending_indexes flat_traced
 returns-5 c = rw c.before.ending3.given.1
 
 pub flat-traced-spec : {M : Type 1} → statement M

@@ -1,7 +1,7 @@
 -- `walk::next_from` takes PC, SP and FP of the caller, and LR of the registers before it.
 -- Assumes nothing.
 use mathlib.Core.Path.{refl}
-use Rattle.trace.specs.inner.Writing.{next_from}
+use Rattle.trace.specs.Inner.Writing.{next_from}
 use Rattle.trace.proofs.walk.next_from.Statement.{statement}
 use Rattle.trace.proofs.walk.next_from.Tie as tie
 

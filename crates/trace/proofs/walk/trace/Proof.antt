@@ -2,13 +2,13 @@
 -- Assumes nothing.
 use borrow.Author.Rules.{rules}
 use mathlib.Core.Path.{sym, ◌∙◌}
-use Rattle.accept.proofs.AcceptedLaws.{accepted-laws}
-use Rattle.trace.proofs.DoorLaws.{in-force-small, door-allows, refused-at-door, refused-by-section, walked}
+use Rattle.accept.proofs.AcceptedLaws.{accepted_laws}
+use Rattle.trace.proofs.DoorLaws.{in_force_small, door_allows, refused_at_door, refused_by_section, walked}
 use Rattle.trace.proofs.walk.trace.Statement.{statement}
 use Rattle.trace.proofs.walk.trace.Tie as tie
 
 layout-at-requires : tie.Need-layout-at-requires
-layout-at-requires c κs = (accepted-laws _ (sym c.before.before.check.ensures ∙ c.enum-told2.given.1)).header.rule1
+layout-at-requires c κs = (accepted_laws _ (sym c.before.before.check.ensures ∙ c.enum-told2.given.1)).header.rule1
 
 walk-requires : tie.Need-walk-requires
 walk-requires c κs =
@@ -18,20 +18,20 @@ walk-requires c κs =
     let opened = checked.before in
     let asked = opened.before.before in
     let start = asked.before.before.before.before in
-    let allowed = door-allows _ _ _ start.args.buffer.now (sym asked.door-fault.ensures ∙ opened.enum_told.given.1) in (
+    let allowed = door_allows _ _ _ start.args.buffer.now (sym asked.door-fault.ensures ∙ opened.enum_told.given.1) in (
       record { accepted = sym checked.check.ensures ∙ told.enum-told2.given.1; layout_is = layout.layout-at.ensures },
-      rw c.before.in-force.ensures (in-force-small _ allowed.0),
+      rw c.before.in-force.ensures (in_force_small _ allowed.0),
       rw c.before.in-force.ensures allowed.1,
     )
 
 returns : tie.Need-returns
-returns c = refused-at-door _ _ _ _ _ _ (sym c.before.before.before.door-fault.ensures ∙ c.before.number.given.1)
+returns c = refused_at_door _ _ _ _ _ _ (sym c.before.before.before.door-fault.ensures ∙ c.before.number.given.1)
 
 returns-2 : tie.Need-returns-2
 returns-2 c =
     let checked = c.before.before.before in
     let opened = checked.before in
-    refused-by-section _ _ _ _ _ _ (sym opened.before.before.door-fault.ensures ∙ opened.enum_told.given.1)
+    refused_by_section _ _ _ _ _ _ (sym opened.before.before.door-fault.ensures ∙ opened.enum_told.given.1)
     (sym checked.check.ensures ∙ c.before.number2.given.1)
 
 returns-3 : tie.Need-returns-3

@@ -8,26 +8,26 @@ use mathlib.Core.List.{[], ◌∷◌}
 use lib.ListN.{length}
 use types.Run.{miss}
 use Rattle.section.specs.Meaning.{shape_of}
-use Rattle.lookup.specs.computed.Answers.{lookIn}
-use Rattle.caller.specs.computed.Caller.{step_of}
-use Rattle.caller.proofs.NumberLaws.{caller-unmarked, caller-keeps-lr}
-use Rattle.trace.specs.Frames.{frame_of, words_of, tracedAs}
-use Rattle.trace.specs.computed.Trace.{checkedWalk}
-use Rattle.trace.specs.inner.Writing.{next_from, put}
+use Rattle.lookup.specs.Computed.Answers.{look_in_lem}
+use Rattle.caller.specs.Computed.Caller.{step_of}
+use Rattle.caller.proofs.NumberLaws.{caller_unmarked, caller_keeps_lr}
+use Rattle.trace.specs.Frames.{frame_of, words_of, traced_as}
+use Rattle.trace.specs.Computed.Trace.{checked_walk}
+use Rattle.trace.specs.Inner.Writing.{next_from, put}
 use Rattle.trace.specs.declared.answer.Ending.TheVariants.{Outermost, Refused}
-use Rattle.trace.proofs.GoingLaws.{next-same, Going, going-begins, going-full, going-refused, going-fits, going-same, going-outermost, going_on}
+use Rattle.trace.proofs.GoingLaws.{next_same, Going, going_begins, going_full, going_refused, going_fits, going_same, going_outermost, going_on}
 use Rattle.trace.proofs.walk.walk.Statement.{statement}
 use Rattle.trace.proofs.walk.walk.Tie as tie
 
 abbrev invariant-loop : tie.invariant-loop
 invariant-loop section layout stack process limit buffer₀ current₀ frames₀ left₀ buffer current frames left =
-    Going (step_of (shape_of section) (lookIn section process.section) stack process) limit current₀ buffer₀ buffer current frames left
+    Going (step_of (shape_of section) (look_in_lem section process.section) stack process) limit current₀ buffer₀ buffer current frames left
 
 abbrev decreases-loop : tie.decreases-loop
 decreases-loop section layout stack process limit buffer₀ current₀ frames₀ left₀ buffer current frames left = left
 
 loop-holds : tie.Need-loop-init invariant-loop decreases-loop
-loop-holds c = going-begins
+loop-holds c = going_begins
 
 step-checked-requires : tie.Need-step-checked-requires invariant-loop decreases-loop
 step-checked-requires c κs = c.before.before.before.before.before.requires.0
@@ -41,11 +41,11 @@ same_length : tie.Need-same-length invariant-loop decreases-loop
 same_length c = c.before.before.before.before.loop.invariant.same
 
 returns : tie.Need-returns invariant-loop decreases-loop
-unfolding checkedWalk
+unfolding checked_walk
 returns c =
     let turn = c.before.before.before in
-    ap (λ n. tracedAs (record { ending = Refused n; frames = turn.before.loop.frames }) turn.before.loop.buffer) c.number_of.ensures
-    ∙ going-refused turn.before.loop.invariant (more turn) _ (sym c.before.before.step-checked.ensures)
+    ap (λ n. traced_as (record { ending = Refused n; frames = turn.before.loop.frames }) turn.before.loop.buffer) c.number_of.ensures
+    ∙ going_refused turn.before.loop.invariant (more turn) _ (sym c.before.before.step-checked.ensures)
     (λ caller e. miss (1 ∷ 2 ∷ []) 0 tt (rw e at c.before.match.keys2))
 
 -- ---- the step yields a frame
@@ -55,7 +55,7 @@ abbrev turn-of : tie.After-known-told invariant-loop decreases-loop → tie.In-l
 turn-of c = c.before.before.before.before
 
 room : (c : tie.In-loop invariant-loop decreases-loop) → 3 * c.before.loop.frames + 3 ≤ length c.before.loop.buffer
-room c = going-fits c.before.loop.invariant (more c) c.before.before.before.before.before.requires.2
+room c = going_fits c.before.loop.invariant (more c) c.before.before.before.before.before.requires.2
 
 few : (c : tie.In-loop invariant-loop decreases-loop) → c.before.loop.frames < 256
 few c = omega (arith, c.before.loop.invariant.counted, more c, c.before.before.before.before.before.requires.1)
@@ -86,17 +86,17 @@ same-length-2 c =
     let turn = turn-of told in
     let yields = sym told.before.before.before.step-checked.ensures ∙ told.before.step.given.1 in
     ap length (written_is written)
-    ∙ going-same turn.before.loop.inv (more turn) turn.before.before.before.before.before.pre.2 yields
+    ∙ going_same turn.before.loop.inv (more turn) turn.before.before.before.before.before.pre.2 yields
 
 returns-2 : tie.Need-returns-2 invariant-loop decreases-loop
-unfolding checkedWalk
+unfolding checked_walk
 returns-2 c =
     let written = c.before.before.before.before in
     let told = told_of written in
     let turn = turn-of told in
     let yields = sym told.before.before.before.step-checked.ensures ∙ told.before.step.given.1 in
-    ap (tracedAs (record { ending = Outermost; frames = turn.before.loop.frames + 1 })) (written_is written)
-    ∙ going-outermost turn.before.loop.inv (more turn) turn.before.before.before.before.before.pre.2 yields c.if1.true
+    ap (traced_as (record { ending = Outermost; frames = turn.before.loop.frames + 1 })) (written_is written)
+    ∙ going_outermost turn.before.loop.inv (more turn) turn.before.before.before.before.before.pre.2 yields c.if1.true
 
 sub-left : tie.Need-overflow-sub-left invariant-loop decreases-loop
 sub-left c = more (turn-of c.before.before.before.before.before.before.before.before)
@@ -112,7 +112,7 @@ next c =
     let current = (turn-of told).before.loop.current in
     let is : c.next-from.result ≡ next_from caller current = c.next-from.ensures in
     let yields = sym told.before.before.before.step-checked.ensures ∙ told.before.step.given.1 in
-    is ∙ next-same caller current (caller-unmarked _ _ _ _ _ caller yields) (caller-keeps-lr _ _ _ _ _ caller yields)
+    is ∙ next_same caller current (caller_unmarked _ _ _ _ _ caller yields) (caller_keeps_lr _ _ _ _ _ caller yields)
 
 loop-again : tie.Need-loop-preserved invariant-loop decreases-loop
 loop-again c =
@@ -129,8 +129,8 @@ same-length-3 : tie.Need-same-length-3 invariant-loop decreases-loop
 same-length-3 c = c.before.loop.invariant.same
 
 returns-3 : tie.Need-returns-3 invariant-loop decreases-loop
-unfolding checkedWalk
-returns-3 c = going-full c.before.loop.invariant (omega (arith, c.loop-test.false))
+unfolding checked_walk
+returns-3 c = going_full c.before.loop.invariant (omega (arith, c.loop-test.false))
 
 pub walk-spec : {M : Type 1} → statement M
 walk-spec =

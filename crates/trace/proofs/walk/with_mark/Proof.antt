@@ -1,12 +1,12 @@
 -- `walk::with_mark` sets the mark alone.
 -- Assumes nothing.
 use mathlib.Core.Path.{refl}
-use Rattle.trace.specs.Frames.{withMark}
+use Rattle.trace.specs.Frames.{with_mark}
 use Rattle.trace.proofs.walk.with_mark.Statement.{statement}
 use Rattle.trace.proofs.walk.with_mark.Tie as tie
 
 returns : tie.Need-returns
-unfolding withMark
+unfolding with_mark
 returns c = refl
 
 pub with-mark-spec : {M : Type 1} → statement M

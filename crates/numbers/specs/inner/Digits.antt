@@ -1,9 +1,0 @@
--- For the readers' own use: where the digits of a field stand.
-use Rattle.std.specs.Prelude.{ℕ, ◌+◌, ◌-◌}
-use Rattle.numbers.specs.declared.field.Order.{Order}
-use Rattle.numbers.specs.declared.field.Order.TheVariants.{Little, Big}
-
--- the place of digit k, the least being 0, of the number of `width` bytes that begins at `at`
-unfoldable pub digitPlace : Order → ℕ → ℕ → ℕ → ℕ
-digitPlace Little at width k = at + k
-digitPlace Big at width k = at + (width - 1 - k)
