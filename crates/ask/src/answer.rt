@@ -2,7 +2,7 @@
 use section::row::Row;
 
 // The row of the function landed on, or why there is none. Each case carries what request 05 says that it carries.
-#[derive(Drop)]
+#[derive(Clone, Copy)]
 pub enum AskAnswer {
     // The function landed on, by its index, and its row, with the row's number in the function. The row stands behind the
     // numbers: in their place, two of its parts would be read back as one word, and wait for both to be written.

@@ -15,7 +15,7 @@ use section::row::{Row, row_at, row_length};
 use section::shape::Shape;
 
 // What the rows come to: one of 9 to 13 is broken, no row starts at or below, or the last row that does, with its number.
-#[derive(Drop)]
+#[derive(Clone, Copy)]
 pub enum Sought {
     Broken,
     Missed,
@@ -23,7 +23,7 @@ pub enum Sought {
 }
 
 // What a walk over all rows comes to: a fault, or where the rows at or below end.
-#[derive(Drop)]
+#[derive(Clone, Copy)]
 enum Walk {
     Faulty,
     Whole(Stop),

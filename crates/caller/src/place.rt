@@ -8,7 +8,7 @@ use numbers::field::Order;
 use section::row::Place;
 
 // A saved place with CFA known: kept in its register, saved at an address, or at an offset that leads beyond memory.
-#[derive(Drop)]
+#[derive(Clone, Copy)]
 pub enum Spot {
     Kept,
     Saved(u64),
@@ -16,7 +16,7 @@ pub enum Spot {
 }
 
 // RA and FP of the caller, or which of the two words is outside the stack window.
-#[derive(Drop)]
+#[derive(Clone, Copy)]
 pub enum Values {
     // RA, then FP.
     Both(u64, u64),

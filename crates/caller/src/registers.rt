@@ -9,7 +9,7 @@ use section::row::{Base, Row};
 
 // Five numbers, all of them any value. The first-frame mark is set where `first` is not 0.
 #[repr(C)]
-#[derive(Drop)]
+#[derive(Clone, Copy)]
 pub struct Registers {
     pub pc: u64,
     pub sp: u64,
@@ -21,7 +21,7 @@ pub struct Registers {
 // What is known of the crashed process beside its registers: where its section and the stack window lie, and which bits of a signed
 // return address are the signature, 0 where that is not known.
 #[repr(C)]
-#[derive(Drop)]
+#[derive(Clone, Copy)]
 pub struct Process {
     pub section: u64,
     pub stack: u64,
@@ -29,14 +29,14 @@ pub struct Process {
 }
 
 // The PC that is looked up, or that there is none to look up.
-#[derive(Drop)]
+#[derive(Clone, Copy)]
 pub enum Asked {
     At(u64),
     Nowhere,
 }
 
 // What a step answers. The largest field stands first, so that it is not moved about.
-#[derive(Drop)]
+#[derive(Clone, Copy)]
 pub enum Step {
     // The caller's registers.
     Caller(Registers),

@@ -1,9 +1,11 @@
 // Numbers as the command line gives them: addresses in hexadecimal, 1 to 16 digits, with or without a leading 0x or 0X; counts in
 // decimal, 1 to 19 digits. Leading zeros do not count.
+#![tactic(auto)]
+
 ghost use Rattle.std.specs.Prelude.{◌≡◌, ◌≤◌, ◌^◌};
 ghost use Rattle.digits.specs.Digits.{digit_of, digits_of, padding, number_of, is_x, marked, hex_of, decimal_of};
 
-#[derive(Drop)]
+#[derive(Clone, Copy)]
 pub enum Parsed {
     Number(u64),
     Wrong,

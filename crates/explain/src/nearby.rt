@@ -22,14 +22,14 @@ const LIFT: u64 = 0x1_0000_0000;
 const FAR: u64 = 0x4_0000_0000;
 
 // The two sides of a PC.
-#[derive(Drop)]
+#[derive(Clone, Copy)]
 pub enum Side {
     Below,
     Above,
 }
 
 // The largest key so far, and the lowest function that has it. Key 0 is none.
-#[derive(Drop)]
+#[derive(Clone, Copy)]
 pub struct Best {
     pub key: u64,
     pub function: u64,

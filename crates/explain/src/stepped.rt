@@ -22,7 +22,7 @@ use section::row::{Place, Row};
 use section::shape::{Shape, shape_of};
 
 // What stands at a saved place; of a word that is not wholly inside the window, the offset that leads to it.
-#[derive(Drop)]
+#[derive(Clone, Copy)]
 pub enum Fetched {
     Is(u64),
     Missing(Offset),

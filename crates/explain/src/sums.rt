@@ -5,7 +5,7 @@ ghost use Rattle.explain.specs.Computed.Sum.{sum_up, sum_down, sum_of};
 use numbers::offset::{Offset, Shift, shift_of};
 
 // An address, or by how much the sum is below 0 or above 2^64 - 1.
-#[derive(Drop)]
+#[derive(Clone, Copy)]
 pub enum Sum {
     At(u64),
     Below(u64),

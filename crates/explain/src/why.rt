@@ -5,7 +5,7 @@ use numbers::offset::Offset;
 use section::row::Row;
 
 // Where a row starts, or that the function has no such row.
-#[derive(Drop)]
+#[derive(Clone, Copy)]
 pub enum RowStart {
     Is(u64),
     Missing,
@@ -13,7 +13,7 @@ pub enum RowStart {
 
 // The covered address nearest on one side of a PC, as an offset from the section's first byte, with the lowest function that covers it;
 // or that no address on that side is covered.
-#[derive(Drop)]
+#[derive(Clone, Copy)]
 pub enum Nearest {
     Covered { offset: Offset, function: u64 },
     Nothing,
@@ -21,7 +21,7 @@ pub enum Nearest {
 
 // The row that was found: its function, the offset that rows were compared with, the row with its number, and where the next row of the
 // same function starts.
-#[derive(Drop)]
+#[derive(Clone, Copy)]
 pub struct FoundRow {
     pub row: Row,
     pub function: u64,
@@ -31,7 +31,7 @@ pub struct FoundRow {
 }
 
 // Why no row was found.
-#[derive(Drop)]
+#[derive(Clone, Copy)]
 pub enum NotFound {
     // 21: nothing at the PC is covered, and these are the nearest addresses that are.
     NoFunction {
@@ -50,27 +50,27 @@ pub enum NotFound {
 
 // How many functions cover, and of these the first 16, rising. An enum holds no array, so this stands beside one; where there is no
 // dispute it is empty.
-#[derive(Drop)]
+#[derive(Clone, Copy)]
 pub struct Coverers {
     pub count: u64,
     pub indexes: [u64; 16],
 }
 
 // What a lookup comes to in a section that is accepted.
-#[derive(Drop)]
+#[derive(Clone, Copy)]
 pub enum Looked {
     Found(FoundRow),
     NotFound(NotFound),
 }
 
-#[derive(Drop)]
+#[derive(Clone, Copy)]
 pub struct LookedWhy {
     pub looked: Looked,
     pub coverers: Coverers,
 }
 
 // Why a lookup gives its answer.
-#[derive(Drop)]
+#[derive(Clone, Copy)]
 pub enum LookupReason {
     // 1 to 15: the section breaks this rule first, at the entry with this index.
     Unsound { number: u64, index: u64 },
@@ -78,21 +78,21 @@ pub enum LookupReason {
     Accepted(Looked),
 }
 
-#[derive(Drop)]
+#[derive(Clone, Copy)]
 pub struct LookupWhy {
     pub reason: LookupReason,
     pub coverers: Coverers,
 }
 
 // Which of the two words that a caller is read from.
-#[derive(Drop)]
+#[derive(Clone, Copy)]
 pub enum Needed {
     Ra,
     Fp,
 }
 
 // What a row comes to.
-#[derive(Drop)]
+#[derive(Clone, Copy)]
 pub enum RowReason {
     // The caller: its registers, CFA, and RA as it was read. Where RA and FP came from stands in the row.
     Caller {
@@ -131,7 +131,7 @@ pub enum RowReason {
 }
 
 // Why a step gives its answer.
-#[derive(Drop)]
+#[derive(Clone, Copy)]
 pub enum StepReason {
     // 41: the two numbers whose sum is above 2^64.
     Window {
@@ -158,7 +158,7 @@ pub enum StepReason {
     },
 }
 
-#[derive(Drop)]
+#[derive(Clone, Copy)]
 pub struct StepWhy {
     pub reason: StepReason,
     pub coverers: Coverers,

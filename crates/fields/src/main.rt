@@ -2,6 +2,8 @@
 //
 // Both files lie in data/. A question is a line of 32 bytes: what it asks for (24), the place (two decimal digits), a space,
 // the code of the width, a space, L or B for the order, U or S for unsigned or signed, and the line's end.
+#![tactic(auto)]
+
 ghost use Rattle.std.specs.Prelude.{◌<◌};
 ghost use Rattle.io.specs.Counts.{IsPrefixLen};
 

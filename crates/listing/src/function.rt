@@ -15,14 +15,14 @@ use section::entry::{Entry, does_repeat, entry_at, exact_start, type_of};
 use section::header::{Layout, layout_at, order_at};
 
 // A block is plain, or repeated by a size.
-#[derive(Drop)]
+#[derive(Clone, Copy)]
 pub enum Kind {
     Plain,
     Repeated(u8),
 }
 
 // What is said of a function. `rows` is where its rows begin, with their number.
-#[derive(Drop)]
+#[derive(Clone, Copy)]
 pub struct Facts {
     pub start: Offset,
     pub size: u32,
@@ -31,7 +31,7 @@ pub struct Facts {
 }
 
 // What is said of an index: the number of a broken rule of the header, that there is no such function, or the function.
-#[derive(Drop)]
+#[derive(Clone, Copy)]
 pub enum Described {
     Unsound(u64),
     Unknown,

@@ -12,7 +12,7 @@ use section::header::{Layout, layout_at};
 use section::row::Row;
 
 // A function's line.
-#[derive(Drop)]
+#[derive(Clone, Copy)]
 pub struct FunctionLine {
     pub index: u64,
     pub start: Offset,
@@ -20,21 +20,21 @@ pub struct FunctionLine {
     pub kind: Kind,
 }
 
-#[derive(Drop)]
+#[derive(Clone, Copy)]
 pub enum Line {
     OfFunction(FunctionLine),
     OfRow(Row),
 }
 
 // What a turn yields.
-#[derive(Drop)]
+#[derive(Clone, Copy)]
 pub enum NextLine {
     One(Line),
     NoMore,
 }
 
 // Where a listing stands: the rows that are left of the function before, then so many functions from an index on.
-#[derive(Drop)]
+#[derive(Clone, Copy)]
 pub struct Cursor {
     pub index: u64,
     pub left: u32,
@@ -42,7 +42,7 @@ pub struct Cursor {
 }
 
 // A turn: what it yields, and where the listing then stands.
-#[derive(Drop)]
+#[derive(Clone, Copy)]
 pub struct LineTurn {
     pub next: NextLine,
     pub cursor: Cursor,

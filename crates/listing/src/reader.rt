@@ -9,7 +9,7 @@ use crate::rows::{NextRow, RowPlace, nowhere, row_turn};
 use accept::section_check::check;
 use accept::verdict::Verdict;
 
-#[derive(Drop)]
+#[derive(Clone, Copy)]
 pub struct RowReader<'a> {
     pub section: &'a [u8],
     pub place: RowPlace,

@@ -10,7 +10,7 @@ use section::row::{Row, count_of, info_at, offset_size_of, row_at, row_length};
 use section::shape::{Abi, shape_of};
 
 // Where a reader stands: how the rows are written, the place of the next one in the section, and how many are left.
-#[derive(Drop)]
+#[derive(Clone, Copy)]
 pub struct RowPlace {
     pub abi: Abi,
     pub code: usize,
@@ -19,14 +19,14 @@ pub struct RowPlace {
 }
 
 // What a turn yields.
-#[derive(Drop)]
+#[derive(Clone, Copy)]
 pub enum NextRow {
     One(Row),
     NoMore,
 }
 
 // A turn: what it yields, and where the reader then stands.
-#[derive(Drop)]
+#[derive(Clone, Copy)]
 pub struct RowTurn {
     pub next: NextRow,
     pub place: RowPlace,

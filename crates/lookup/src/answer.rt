@@ -2,7 +2,7 @@
 use section::row::Row;
 
 // The row that was found, or why there is none. Each case carries what document 01 says that it carries.
-#[derive(Drop)]
+#[derive(Clone, Copy)]
 pub enum Outcome {
     // The one function that covers, by its index, and its row, with the row's number in the function.
     Found {
@@ -29,7 +29,7 @@ pub enum Outcome {
 }
 
 // An outcome, and the number of entries compared.
-#[derive(Drop)]
+#[derive(Clone, Copy)]
 pub struct Answer {
     pub outcome: Outcome,
     pub compared: u64,

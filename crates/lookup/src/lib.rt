@@ -1,5 +1,7 @@
 // The function and row for a PC: the one function that covers it, the last of its rows at or below, and how many entries
 // were compared.
+#![tactic(auto)]
+
 pub mod answer;
 pub mod look;
 pub mod rows;

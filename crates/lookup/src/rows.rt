@@ -15,21 +15,21 @@ use section::row::{Row, info_at, row_at, row_length, row_start_at};
 use section::shape::Shape;
 
 // The last row at or below, with its number in the function, or that there is none.
-#[derive(Drop)]
+#[derive(Clone, Copy)]
 pub enum Scan {
     Missed,
     Hit { row: Row, number: u32 },
 }
 
 // How many rows, from the first on, start at or below, and where the last of them stands.
-#[derive(Drop)]
+#[derive(Clone, Copy)]
 pub struct Stop {
     pub rows: u32,
     pub place: usize,
 }
 
 // An info byte, and the length of every row that has it.
-#[derive(Drop)]
+#[derive(Clone, Copy)]
 pub struct Told {
     pub info: u8,
     pub length: usize,

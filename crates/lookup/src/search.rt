@@ -19,7 +19,7 @@ use section::header::{Layout, order_at};
 const LEAST: u64 = 0x8000_0000;
 
 // Whether functions cover: none, one, or two or more, and then the two lowest. By their indexes.
-#[derive(Drop)]
+#[derive(Clone, Copy)]
 pub enum Cover {
     Nobody,
     One(u64),
@@ -27,21 +27,21 @@ pub enum Cover {
 }
 
 // Which functions cover, and the number of entries compared.
-#[derive(Drop)]
+#[derive(Clone, Copy)]
 pub struct Search {
     pub cover: Cover,
     pub compared: u64,
 }
 
 // Where the halving ends: one past the last entry that was found to start at most at d, and the number of entries compared.
-#[derive(Drop)]
+#[derive(Clone, Copy)]
 pub struct Landing {
     pub low: u64,
     pub compared: u64,
 }
 
 // How far an address is past the start of a function that covers it, or that the function does not.
-#[derive(Drop)]
+#[derive(Clone, Copy)]
 pub enum Past {
     Outside,
     By(u64),

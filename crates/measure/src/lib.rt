@@ -1,5 +1,7 @@
 // For the benchmark alone: many lookups in a section that is checked once. It is a static library of its own, and no part of the
 // product's. What the lookups found goes into a digest, so that none of them can be left out.
+#![tactic(auto)]
+
 ghost use Rattle.std.specs.Prelude.{◌≡◌, ◌<◌, ◌*◌, ◌^◌};
 ghost use Rattle.lookup.specs.Inner.Requires.{AcceptedOf};
 ghost use Rattle.measure.specs.Digest.{low, magnitude, place_weight, base_weight, flag_weight, row_weight, outcome_weight, weight, digest_from, measured_of};
@@ -13,7 +15,7 @@ use section::header::{Layout, layout_at};
 use section::row::{Base, Place, Row};
 
 #[repr(C)]
-#[derive(Drop)]
+#[derive(Clone, Copy)]
 pub struct Measured {
     pub number: u64,
     pub index: u64,

@@ -1,5 +1,7 @@
 // For the benchmark alone: the whole listing of a section that is checked once. Its lines go into a digest, so that none of them can be
 // left out. It is a static library of its own, beside `measure`, so that each is compiled as a program that does one thing has it.
+#![tactic(auto)]
+
 ghost use Rattle.std.specs.Prelude.{◌≡◌, ◌<◌, ◌*◌, ◌^◌};
 ghost use Rattle.listing.specs.Computed.Lines.{lines_left};
 ghost use Rattle.measure_lines.specs.Listed.{kind_weight, function_weight, line_weight, digest_lines, listed_of};

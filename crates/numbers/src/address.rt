@@ -5,13 +5,13 @@ ghost use Rattle.numbers.specs.Computed.Address.{address_of, window_fits, word_o
 use crate::field::{Order, u64_at};
 use crate::offset::{Offset, Shift, shift_of};
 
-#[derive(Drop)]
+#[derive(Clone, Copy)]
 pub enum Address {
     At(u64),
     Outside,
 }
 
-#[derive(Drop)]
+#[derive(Clone, Copy)]
 pub enum Word {
     Is(u64),
     Outside,

@@ -5,14 +5,14 @@ ghost use Rattle.numbers.specs.Field.{field_of, byte_of};
 ghost use Rattle.numbers.specs.Inner.Digits.{digit_place};
 ghost use Rattle.numbers.specs.Computed.Number.{number_of};
 
-#[derive(Drop)]
+#[derive(Clone, Copy)]
 pub enum Order {
     Little,
     Big,
 }
 
 // What reading a number finds.
-#[derive(Drop)]
+#[derive(Clone, Copy)]
 pub enum Number {
     Is(u64),
     // Some of its bytes would lie outside.

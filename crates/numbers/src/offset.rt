@@ -6,12 +6,12 @@ ghost use Rattle.numbers.specs.Inner.Shift.{shift_of};
 
 use crate::field::{Order, field_at};
 
-#[derive(Drop)]
+#[derive(Clone, Copy)]
 pub struct Offset {
     pub by: i64,
 }
 
-#[derive(Drop)]
+#[derive(Clone, Copy)]
 pub enum Shift {
     Up(u64),
     Down(u64),

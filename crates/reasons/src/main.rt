@@ -3,6 +3,8 @@
 //
 // The file data/cases holds the records one after the other. A record is ten words of 8 bytes, little-endian (the section's length, the
 // stack's length, the section's address, the stack's address, the mask, PC, SP, FP, LR, the mark), the section's bytes, and the stack's.
+#![tactic(auto)]
+
 mod found;
 mod line;
 mod lookups;

@@ -6,6 +6,8 @@
 // in 8 decimal digits, the section's length, the number of questions and how many bytes its walks have, and a line's end), the
 // section's bytes, 16 bytes for each question (the section's address and the PC, 8 bytes each, little-endian), and the walks
 // (`walks`).
+#![tactic(auto)]
+
 mod asks;
 mod show;
 mod show_walks;
@@ -95,7 +97,7 @@ fn show_cut() {
 }
 
 // What is made of a case: its verdict with all answers, or its questions asked once more.
-#[derive(Drop)]
+#[derive(Clone, Copy)]
 enum Pass {
     Answers,
     Asks,

@@ -8,7 +8,7 @@ use numbers::field::{Order, u8_at, u32_at};
 use numbers::held::{held_start, start_at};
 use numbers::offset::Offset;
 
-#[derive(Drop)]
+#[derive(Clone, Copy)]
 pub struct Entry {
     pub place: u32,
     pub start: u32,

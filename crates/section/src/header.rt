@@ -9,7 +9,7 @@ use numbers::field::{Order, u8_at, u16_at, u32_at};
 use numbers::offset::{Offset, offset_of};
 
 // Bytes 2 to 7. The ABI is the code as it stands.
-#[derive(Drop)]
+#[derive(Clone, Copy)]
 pub struct Marks {
     pub version: u8,
     pub flags: u8,
@@ -20,7 +20,7 @@ pub struct Marks {
 }
 
 // Bytes 8 to 27.
-#[derive(Drop)]
+#[derive(Clone, Copy)]
 pub struct Sizes {
     pub functions: u32,
     pub rows: u32,
@@ -30,7 +30,7 @@ pub struct Sizes {
 }
 
 // What is needed once the header is sound: `table` and `area` are places in the section.
-#[derive(Drop)]
+#[derive(Clone, Copy)]
 pub struct Layout {
     pub abi: Abi,
     pub functions: u32,

@@ -10,20 +10,20 @@ use numbers::field::{Order, field_at, u8_at, width_of};
 use numbers::offset::{Offset, offset_at};
 
 // What CFA counts from.
-#[derive(Drop)]
+#[derive(Clone, Copy)]
 pub enum Base {
     Fp,
     Sp,
 }
 
 // Where a register was saved: in the register itself, or at an offset from CFA.
-#[derive(Drop)]
+#[derive(Clone, Copy)]
 pub enum Place {
     Register,
     AtOffset(Offset),
 }
 
-#[derive(Drop)]
+#[derive(Clone, Copy)]
 pub struct Row {
     pub start: u32,
     pub base: Base,

@@ -5,14 +5,14 @@ ghost use Rattle.section.specs.Shape.{abi_of, aarch64_shape, amd64_shape, shape}
 use numbers::field::Order;
 use numbers::offset::Offset;
 
-#[derive(Drop)]
+#[derive(Clone, Copy)]
 pub enum Abi {
     Aarch64Big,
     Aarch64Little,
     Amd64,
 }
 
-#[derive(Drop)]
+#[derive(Clone, Copy)]
 pub struct Shape {
     pub order: Order,
     // The most offsets that a row may have; the least is 1.

@@ -11,7 +11,7 @@ use digits::Parsed;
 use lookup::look::lookup;
 
 // What is asked.
-#[derive(Drop)]
+#[derive(Clone, Copy)]
 pub enum Question {
     Check,
     List,

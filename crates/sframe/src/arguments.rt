@@ -10,14 +10,14 @@ use digits::{Parsed, parse, parse_decimal};
 use libc::{SEEK_CUR, SEEK_SET, STDIN_FILENO};
 
 // A file that was opened: one that can be read only once is a pipe, or standard input, whatever that is.
-#[derive(Drop)]
+#[derive(Clone, Copy)]
 pub enum Opened {
     File { file: i32, once: bool },
     Failed,
 }
 
 // How many bytes of a room a file fills, that it has more than the room holds, or that it was not read.
-#[derive(Drop)]
+#[derive(Clone, Copy)]
 pub enum Loaded {
     Bytes(usize),
     Long,
@@ -74,7 +74,7 @@ pub fn count_given(i: usize, name: &[u8]) -> Parsed {
 }
 
 // An address of the section and a PC, or that one of them is wrong.
-#[derive(Drop)]
+#[derive(Clone, Copy)]
 pub enum Given {
     At { address: u64, pc: u64 },
     Wrong,

@@ -3,7 +3,7 @@ use crate::say::{complain, note, note_argument, say};
 use crate::text::is_same;
 
 // What a person can ask for.
-#[derive(Drop)]
+#[derive(Clone, Copy)]
 pub enum Command {
     Check,
     List,

@@ -1,6 +1,8 @@
 // The program for people: it checks an `.sframe` section, lists it, looks PCs up in it, asks it single addresses, works out one caller,
 // says why a lookup or a caller comes to its answer, or walks a trace.
 // Every answer is the library's; this program reads the arguments and the files, and prints.
+#![tactic(auto)]
+
 mod answers;
 mod arguments;
 mod help;

@@ -48,7 +48,7 @@ pub fn bytes_of(room: usize) -> u64 {
 }
 
 // The largest room that can be had, or that there is none.
-#[derive(Drop)]
+#[derive(Clone, Copy)]
 pub enum Largest {
     Room(usize),
     None,

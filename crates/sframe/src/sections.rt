@@ -8,7 +8,7 @@ use crate::rooms::{
 use crate::say::{complain, note, note_number};
 
 // Whether the room was large enough, or the file could not be read at all.
-#[derive(Drop)]
+#[derive(Clone, Copy)]
 pub enum Turn {
     Done,
     Long,

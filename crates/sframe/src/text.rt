@@ -16,7 +16,7 @@ pub fn is_same(a: &[u8], b: &[u8]) -> bool {
 }
 
 // Where a text ends that is found in another.
-#[derive(Drop)]
+#[derive(Clone, Copy)]
 pub enum Found {
     Behind(usize),
     Nowhere,

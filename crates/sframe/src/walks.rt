@@ -17,7 +17,7 @@ use trace::walk::trace;
 const WORDS: usize = 768;
 
 // What is sought: one caller, why it is that, or a whole trace.
-#[derive(Drop)]
+#[derive(Clone, Copy)]
 pub enum Sought {
     Caller,
     Why,
@@ -28,7 +28,7 @@ pub enum Sought {
 const WITH_MASK: usize = 10;
 
 // Where the stack lies and what the registers hold, without a mark.
-#[derive(Drop)]
+#[derive(Clone, Copy)]
 enum Start {
     From { registers: Registers, stack: u64 },
     Wrong,

@@ -9,7 +9,7 @@ use section::row::{Base, Place, Row};
 
 // A verdict: number 0 is accepted, else the number and the entry's index.
 #[repr(C)]
-#[derive(Drop)]
+#[derive(Clone, Copy)]
 pub struct VerdictInC {
     pub number: u64,
     pub index: u64,
@@ -17,7 +17,7 @@ pub struct VerdictInC {
 
 // What a lookup answers: number 0 is found. A place is 0 in a register, 1 at the offset beside it; a base is 0 for FP, 1 for SP.
 #[repr(C)]
-#[derive(Drop)]
+#[derive(Clone, Copy)]
 pub struct AnswerInC {
     pub number: u64,
     pub function: u64,

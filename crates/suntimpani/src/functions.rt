@@ -7,7 +7,7 @@ use listing::function::{Described, Facts, Kind};
 // What is said of an index: known is 1 where there is such a function, else the number is 0 or that of a broken rule of the header.
 // Repeated is 1 for repeated blocks, with their size.
 #[repr(C)]
-#[derive(Drop)]
+#[derive(Clone, Copy)]
 pub struct FunctionInC {
     pub number: u64,
     pub known: u64,

@@ -1,4 +1,6 @@
 // The C surface, a static library: flat answers by value, nothing allocated, nothing kept.
+#![tactic(auto)]
+
 pub mod asks;
 pub mod flat;
 pub mod functions;

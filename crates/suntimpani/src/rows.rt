@@ -12,7 +12,7 @@ use section::shape::Abi;
 // Where a reader stands: the header's code of the ABI, the type of the rows, the place of the next one in the section, and how many are
 // left.
 #[repr(C)]
-#[derive(Drop)]
+#[derive(Clone, Copy)]
 pub struct RowsInC {
     pub abi: u64,
     pub code: u64,
@@ -22,7 +22,7 @@ pub struct RowsInC {
 
 // A turn: more is 1 where there is a row, which stands as in a lookup's answer. The rest is where the reader then stands.
 #[repr(C)]
-#[derive(Drop)]
+#[derive(Clone, Copy)]
 pub struct RowInC {
     pub more: u64,
     pub start: u64,

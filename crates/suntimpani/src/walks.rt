@@ -7,7 +7,7 @@ use trace::answer::{Ending, Traced};
 
 // What a step answers: number 0 is the caller's registers, else the old ones, the number and, for 1 to 15, the entry's index.
 #[repr(C)]
-#[derive(Drop)]
+#[derive(Clone, Copy)]
 pub struct StepInC {
     pub registers: Registers,
     pub number: u64,
@@ -16,7 +16,7 @@ pub struct StepInC {
 
 // What a trace answers: how many frames were written, the ending's number and, for 1 to 15, the entry's index.
 #[repr(C)]
-#[derive(Drop)]
+#[derive(Clone, Copy)]
 pub struct TracedInC {
     pub frames: u64,
     pub ending: u64,

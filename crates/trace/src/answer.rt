@@ -7,7 +7,7 @@ ghost use Rattle.trace.specs.Frames.{frame_of, words_of};
 use caller::registers::{Registers, Step, cfa_of_sp};
 
 // One frame: the three words that are written of it.
-#[derive(Drop)]
+#[derive(Clone, Copy)]
 pub struct Frame {
     pub cfa: u64,
     pub ra: u64,
@@ -15,7 +15,7 @@ pub struct Frame {
 }
 
 // Why a trace ended. Each case carries what document 01 says that it carries.
-#[derive(Drop)]
+#[derive(Clone, Copy)]
 pub enum Ending {
     // 30: the last frame's RA is 0.
     Outermost,
@@ -30,7 +30,7 @@ pub enum Ending {
 }
 
 // The ending, and how many frames were written.
-#[derive(Drop)]
+#[derive(Clone, Copy)]
 pub struct Traced {
     pub ending: Ending,
     pub frames: u64,
