@@ -26,6 +26,7 @@ class Function:
     def __init__(self, of, path):
         self.of, self.path = of, path
         self.used = set()
+        self.copies = {}
         self.renamed = {}
         self.places = of["places"]
         self.index = {p[0]: i for i, p in enumerate(self.places)}
@@ -97,6 +98,9 @@ class Function:
 
     def new_name(self, place):
         return self.names[self.index[place]]
+
+    def copy_name(self, name, place):
+        return name + "_at_" + self.new_name(place).lower().replace("-", "_")
 
     def ups(self, at, to):
         """The `.before`s in today's records from one place to an earlier one."""
@@ -246,9 +250,9 @@ def arguments(text):
 PATH = re.compile(r"(?<![\w.\-'₀-₉])(" + W + r")((?:\." + W + r")*)")
 
 
-def turn_body(fn, text, env, goal):
+def turn_body(fn, text, env, goal, here=None):
     """Rewrites the paths of records in a body. env: the variables that stand for records, each with its place."""
-    here = env["c"]
+    here = here or env["c"]
     # Names for records: `let start = c.before.before in`
     while True:
         m = re.search(r"\blet (" + W + r") = (" + W + r")((?:\.before)*) in\s*", text)
@@ -287,9 +291,18 @@ def turn_body(fn, text, env, goal):
         if goal:
             fn.used.add(fn.new_name(place))
             return f"(goal.at.{goal} c).{fn.new_name(place)}"
-        return "c" + fn.ups(here, place)
+        return f"c⟪{place}⟫"
 
-    return PATH.sub(one, text)
+    def copy(m):
+        fn.copies.setdefault((m[1], here), None)
+        return fn.copy_name(m[1], here) + " c"
+
+    text = PATH.sub(one, text)
+    text = re.sub(r"(" + W + r") c⟪(" + W + r")⟫", copy, text)
+    text = re.sub(r"\(c⟪" + W + r"⟫ :", "(c :", text)
+    if "⟪" in text:
+        say(fn.path, f"a record is passed on: {text[max(0, text.index('⟪') - 40):][:80]}")
+    return text
 
 
 def place_of_type(fn, text):
@@ -339,7 +352,7 @@ def turn(fn, text):
                     say(fn.path, f"an answer in place is left out: {g}")
     elif "tie.close" in whole or "tie." in whole:
         say(fn.path, f"no tie.spec: {whole[:120]}")
-    invariants, answers = [], []
+    invariants, answers, helpers = [], [], {}
     renamed = {}
     for d in decls:
         if d is last and m:
@@ -429,6 +442,13 @@ def turn(fn, text):
             env[hm[1]] = place
             fn.used.add(fn.new_name(place))
             sig = sig.replace(hm[0], f"({hm[1]} : {fn.new_name(place)})")
+        am = re.search(r": tie\.(" + W + r")((?: invariant-\S+| decreases-\S+)*) →", sig)
+        if am and not env:
+            place = fn.alike_place.get(alike(am[1]))
+            if place:
+                fn.used.add(fn.new_name(place))
+                sig = sig.replace(am[0], f": {fn.new_name(place)} →")
+                env["c"] = place
         if re.search(r"\btie\.", sig):
             say(fn.path, f"helper {d['name']} still cites tie")
         if env:
@@ -440,12 +460,28 @@ def turn(fn, text):
             for a, b in renamed.items():
                 if a != b:
                     out = re.sub(r"(?<![\w.\-'])" + re.escape(a) + r"(?![\w\-'.])", b, out)
+            helpers[d["name"]] = (d, sig, body, env["c"])
             answers.append(d["comment"] + [turn_body(fn, sig, env, None) + ("\n" if body else "") + out])
             for i in d.get("needs", []):
                 new = of["needs"][i][1]
                 answers.append([f"pub {new} : goal.{new}", f"{new} c = {d['name']} c"])
         else:
             answers.append(d["comment"] + [sig] + rest)
+    while any(v is None for v in fn.copies.values()):
+        (name, here) = next(k for k, v in fn.copies.items() if v is None)
+        fn.copies[(name, here)] = True
+        if name not in helpers:
+            say(fn.path, f"{name} is given a record of an earlier place, and is no helper of the file")
+            continue
+        d, sig, body, place = helpers[name]
+        new = fn.copy_name(name, here)
+        fn.used.add(fn.new_name(here))
+        sig = re.sub(r"(?<![\w.\-])" + re.escape(fn.new_name(place)) + r"(?![\w\-])", fn.new_name(here), sig, count=1)
+        env = {"c": place}
+        lines = [turn_body(fn, sig, env, None, here), turn_body(fn, body, env, None, here)]
+        lines = [re.sub(r"(?m)^((?:abbrev )?)" + re.escape(name) + r"(?=[ :])", lambda m: m[1] + new, it) for it in lines]
+        at = next((k for k, a in enumerate(answers) if a and re.search(r"(?<![\w\-])" + re.escape(new) + r"(?![\w\-])", "\n".join(a))), len(answers))
+        answers.insert(at, ["\n".join(it for it in lines if it)])
     for i, g in inline.items():
         new = of["needs"][i][1]
         place = of["asked_at"][i][0].replace("-unread", "")

@@ -64,7 +64,7 @@ def gather(root):
     own, fields, foreign, tokens = {}, {}, set(), set()
     for path in files(root, ".antt"):
         text = read(path)
-        in_record = False
+        in_record, depth = False, 0
         for line in text.split("\n"):
             if line.startswith("use "):
                 m = re.match(r"use (\S+?)(?:\.\{(.*)\})?(?: as (\S+))?$", line)
@@ -77,9 +77,9 @@ def gather(root):
                         if " as " in it:
                             own.setdefault(it.split(" as ")[1].strip(), set()).add(path)
                 continue
-            if re.match(r"^(pub )?record ", line):
-                in_record = True
-            elif line and not line.startswith(" ") and not line.startswith("--"):
+            if re.match(r"^ *(pub )?record ", line):
+                in_record, depth = True, len(line) - len(line.lstrip())
+            elif line.strip() and len(line) - len(line.lstrip()) <= depth and not line.lstrip().startswith("--"):
                 in_record = False
             if in_record:
                 m = re.match(r"^\s+(?:pub )?(" + WORD + r")\s+(?::|\()", line)

@@ -27,7 +27,7 @@ module _ {Cause : Type 0} (number_of : Cause → ℕ) where
     due_exactly_when due makes cause = (λ e. by e due, makes cause)
       where
         by : number ≡ number_of cause → Due number On → On cause
-        by e (inl none) = absurd (omega (arith, distinct.above-0 cause))
+        by e (inl none) = absurd (omega (arith, distinct.above_0 cause))
         by e (inr (other, is, on)) = rw (distinct.same cause other (sym e ∙ is)) on
 
 -- ---- a check

@@ -136,7 +136,7 @@ module _ (s : List ℕ) (address pc : ℕ) where
   unfolding ask_number
   number_0_exactly_when = (
     λ none.
-        ⊎_elim (λ found. found.1) (λ due. absurd (omega (arith, none, due.1, ask_distinct.above-0 due.0))) found_or_cause,
+        ⊎_elim (λ found. found.1) (λ due. absurd (omega (arith, none, due.1, ask_distinct.above_0 due.0))) found_or_cause,
     λ h. let (row, i, k, case) = h in ap ask_number (case_given s address pc (Found i _ k row) (case, refl)),
   )
 

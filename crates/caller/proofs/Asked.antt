@@ -85,16 +85,16 @@ whatever_asked s stack process registers caller h pc found =
       cfa = h.cfa;
       words_at =
           record {
-            cfa_at = record { row_found = found; not_24 = h.words-at.cfa-at.not-24; cfa_is = cfa-kept h.words-at.cfa-at.cfa-is };
-            not_26 = h.words-at.not-26;
-            not_27 = h.words-at.not-27;
+            cfa_at = record { row_found = found; not_24 = h.words_at.cfa_at.not_24; cfa_is = cfa-kept h.words_at.cfa_at.cfa_is };
+            not_26 = h.words_at.not_26;
+            not_27 = h.words_at.not_27;
           };
       ra = h.ra;
-      ra_is = h.ra-is;
-      pc_is = h.pc-is;
-      sp_is = h.sp-is;
-      fp_is = h.fp-is;
-      lr_is = h.lr-is;
+      ra_is = h.ra_is;
+      pc_is = h.pc_is;
+      sp_is = h.sp_is;
+      fp_is = h.fp_is;
+      lr_is = h.lr_is;
       first_is = h.first_is;
     }
   where

@@ -183,7 +183,7 @@ module _ (s stack : List ℕ) (process : Process) (registers : Registers) where
     λ none.
         ⊎_elim
         (λ h. h)
-        (λ h. absurd (omega (arith, step_distinct.above-0 h.0, (number_exactly_when h.0).1 h.1)))
+        (λ h. absurd (omega (arith, step_distinct.above_0 h.0, (number_exactly_when h.0).1 h.1)))
         caller_or_cause,
     λ h. ap step_number ((caller_exactly_when h.0).1 h.1),
   )
@@ -215,33 +215,33 @@ module _ (s stack : List ℕ) (process : Process) (registers : Registers) where
   -- "FP: the word at CFA plus the FP offset when the row has one, else unchanged."
   unfoldable pub case_in_bytes : (caller : Registers) → CallerCase s stack process registers caller → CallerInBytes s stack process registers caller
   case_in_bytes caller h =
-      let at = h.words-at.cfa-at in
-      let (i, k, found) = at.row-found.holds in
-      let obeys = at.row-found.obeys in
+      let at = h.words_at.cfa_at in
+      let (i, k, found) = at.row_found.holds in
+      let obeys = at.row_found.obeys in
       let is = found.row_is in
       record {
         function = i;
         number = k;
         found =
             record {
-              fits = at.row-found.fits;
+              fits = at.row_found.fits;
               obeys = obeys;
-              pc = at.row-found.pc;
-              asked = at.row-found.asked;
+              pc = at.row_found.pc;
+              asked = at.row_found.asked;
               holds = rw is at found;
             };
-        not_24 = λ set. at.not-24 (rw is ((rule_24_bytes s i k process).1 set));
+        not_24 = λ set. at.not_24 (rw is ((rule_24_bytes s i k process).1 set));
         cfa = h.cfa;
-        cfa_is = (cfa_in_bytes s i k registers h.cfa).0 (rw is at at.cfa-is);
-        not_26 = h.words-at.not-26;
+        cfa_is = (cfa_in_bytes s i k registers h.cfa).0 (rw is at at.cfa_is);
+        not_26 = h.words_at.not_26;
         ra = h.ra;
         ra_is =
             (ra_in_bytes s stack process registers i k h.cfa obeys found.only.0.0 found.last.0.0 h.ra).0
-            (rw is at h.words-at.not-27, rw is at h.ra-is);
-        pc = (pc_in_bytes s stack process registers i k h.cfa h.ra caller.pc).0 (rw is at h.pc-is);
-        fp = (fp_in_bytes s stack process registers i k h.cfa caller.fp).0 (rw is at h.fp-is);
-        sp = h.sp-is;
-        lr = h.lr-is;
+            (rw is at h.words_at.not_27, rw is at h.ra_is);
+        pc = (pc_in_bytes s stack process registers i k h.cfa h.ra caller.pc).0 (rw is at h.pc_is);
+        fp = (fp_in_bytes s stack process registers i k h.cfa caller.fp).0 (rw is at h.fp_is);
+        sp = h.sp_is;
+        lr = h.lr_is;
         first = h.first_is;
       }
 
@@ -251,7 +251,7 @@ module _ (s stack : List ℕ) (process : Process) (registers : Registers) where
       let k = h.number in
       let case = h.found.holds in
       let (kept, ra) =
-      (ra_in_bytes s stack process registers i k h.cfa h.found.obeys case.only.0.0 case.last.0.0 h.ra).1 h.ra-is in
+      (ra_in_bytes s stack process registers i k h.cfa h.found.obeys case.only.0.0 case.last.0.0 h.ra).1 h.ra_is in
       record {
         row = row_of_function s i k;
         cfa = h.cfa;
@@ -267,10 +267,10 @@ module _ (s stack : List ℕ) (process : Process) (registers : Registers) where
                           asked = h.found.asked;
                           holds = (i, k, case);
                         };
-                    not_24 = λ set. h.not-24 ((rule_24_bytes s i k process).0 set);
-                    cfa_is = (cfa_in_bytes s i k registers h.cfa).1 h.cfa-is;
+                    not_24 = λ set. h.not_24 ((rule_24_bytes s i k process).0 set);
+                    cfa_is = (cfa_in_bytes s i k registers h.cfa).1 h.cfa_is;
                   };
-              not_26 = h.not-26;
+              not_26 = h.not_26;
               not_27 = kept;
             };
         ra = h.ra;

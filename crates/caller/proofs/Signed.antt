@@ -115,7 +115,7 @@ module _ (s stack : List ℕ) (process : Process) (registers : Registers) where
     -- and nothing is cleared: the caller's PC is RA as it was read
     pub pc_as_read : (caller : Registers) (h : CallerCase s stack process registers caller) → caller.pc ≡ h.ra
     pc_as_read caller h =
-        h.pc-is ∙ ap (λ m. clear m h.ra) (by_shown (signed_shows (shape_of s) h.row) (λ signed. mask_of_signed (shape_of s) h.row process signed ∙ none) (mask_of_unsigned (shape_of s) h.row process))
+        h.pc_is ∙ ap (λ m. clear m h.ra) (by_shown (signed_shows (shape_of s) h.row) (λ signed. mask_of_signed (shape_of s) h.row process signed ∙ none) (mask_of_unsigned (shape_of s) h.row process))
         ∙ clear_none h.ra
 
   -- ---- with any other
@@ -129,16 +129,16 @@ module _ (s stack : List ℕ) (process : Process) (registers : Registers) where
     pub pc_of_signed : Signed (shape_of s) h.row → Cleared process.mask h.ra caller.pc
     pc_of_signed signed =
         (clear_exactly_when process.mask h.ra caller.pc).0
-        (sym (rw (mask_of_signed (shape_of s) h.row process signed) at h.pc-is))
+        (sym (rw (mask_of_signed (shape_of s) h.row process signed) at h.pc_is))
 
     -- of any other RA is as it was read, whatever the mask
     pub pc_of_unsigned : ¬ Signed (shape_of s) h.row → caller.pc ≡ h.ra
-    pc_of_unsigned unsigned = rw (mask_of_unsigned (shape_of s) h.row process unsigned) at h.pc-is ∙ clear_none h.ra
+    pc_of_unsigned unsigned = rw (mask_of_unsigned (shape_of s) h.row process unsigned) at h.pc_is ∙ clear_none h.ra
 
     -- the caller's PC is 0 exactly where only bits that are cleared are set in RA
     pub zero_exactly_when : (caller.pc ≡ 0) ↔ OnlySignature (mask_of (shape_of s) h.row process) h.ra
     zero_exactly_when =
-        Iff.trans (λ e. sym h.pc-is ∙ e, λ e. h.pc-is ∙ e) (clear_all_exactly_when (mask_of (shape_of s) h.row process) h.ra)
+        Iff.trans (λ e. sym h.pc_is ∙ e, λ e. h.pc_is ∙ e) (clear_all_exactly_when (mask_of (shape_of s) h.row process) h.ra)
 
 -- AMD64 never clears, also for a row made by hand
 pub amd64_clears_nothing : (row : Row) (process : Process) → mask_of amd64_shape row process ≡ 0

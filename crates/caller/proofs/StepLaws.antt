@@ -110,7 +110,7 @@ module _ (s stack : List ℕ) (process : Process) (registers : Registers) where
       cfa-given : CfaAt s stack process registers row cfa → answer ≡ from_cfa (shape_of s) stack process registers row cfa
       unfolding with_cfa
       cfa-given h =
-          unsigned-given h.row-found h.not-24 ∙ rw (in_memory_lem (cfa_of registers row) cfa h.cfa-is.0 h.cfa-is.1)
+          unsigned-given h.row_found h.not_24 ∙ rw (in_memory_lem (cfa_of registers row) cfa h.cfa_is.0 h.cfa_is.1)
 
       low-given : CfaAt s stack process registers row cfa → Rule26 registers cfa → answer ≡ Refused registers 26
       unfolding from_cfa unless_low
@@ -134,7 +134,7 @@ module _ (s stack : List ℕ) (process : Process) (registers : Registers) where
           (value_of stack process.stack (shape_of s).order registers.fp (spot_of cfa row.fp)))
       unfolding from_spots unless_lost values_of
       words-given h =
-          spots-given h.cfa-at h.not-26 ∙ rw (is_false (lost_shows registers cfa row.ra) h.not-27, unless_lost)
+          spots-given h.cfa_at h.not_26 ∙ rw (is_false (lost_shows registers cfa row.ra) h.not_27, unless_lost)
 
       ra-outside : WordsAt s stack process registers row cfa → Outside stack process.stack cfa row.ra → answer ≡ Refused registers 28
       unfolding both_of with_values
@@ -148,11 +148,11 @@ module _ (s stack : List ℕ) (process : Process) (registers : Registers) where
   caller-given : (caller : Registers) → CallerCase s stack process registers caller → answer ≡ Caller caller
   unfolding both_of with_values
   caller-given caller h =
-      let fits = h.words-at.cfa-at.row-found.fits in
-      let ra = value_given stack process.stack (shape_of s).order h.cfa registers.lr h.row.ra h.ra fits h.ra-is in
-      let fp = value_given stack process.stack (shape_of s).order h.cfa registers.fp h.row.fp caller.fp fits h.fp-is in
-      words-given h.words-at
-      ∙ rw (ra, fp) (same-caller _ (caller_sp h.cfa) registers.lr 0 h.pc-is h.sp-is h.lr-is h.first_is)
+      let fits = h.words_at.cfa_at.row_found.fits in
+      let ra = value_given stack process.stack (shape_of s).order h.cfa registers.lr h.row.ra h.ra fits h.ra_is in
+      let fp = value_given stack process.stack (shape_of s).order h.cfa registers.fp h.row.fp caller.fp fits h.fp_is in
+      words-given h.words_at
+      ∙ rw (ra, fp) (same-caller _ (caller_sp h.cfa) registers.lr 0 h.pc_is h.sp_is h.lr_is h.first_is)
     where
       same-caller : (pc sp lr first : ℕ) → caller.pc ≡ pc → caller.sp ≡ sp → caller.lr ≡ lr → caller.first ≡ first
           → Caller (record { pc = pc; sp = sp; fp = caller.fp; lr = lr; first = first }) ≡ Caller caller

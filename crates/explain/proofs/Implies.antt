@@ -141,7 +141,7 @@ module _ (s stack : List ℕ) (process : Process) (registers : Registers) where
       → step_in s stack process registers ≡ Refused registers (number_of_step_cause window)
   window_implies lies size why =
       let above = why.above in
-      let first = why.lies-is in
+      let first = why.lies_is in
       let long = why.size_is in
       (step_exactly_when s stack process registers _).1 (refl, inl (refl, omega arith))
 
@@ -210,7 +210,7 @@ module _ (s stack : List ℕ) (process : Process) (registers : Registers) where
     unfolding cfa_of
     cfa_outside_implies base offset why =
         refusal_given s stack process registers cfaOutside
-        (_, row_found, why.not-24, rw (← why.base-is, ← why.offset_is) why.outside)
+        (_, row_found, why.not_24, rw (← why.base_is, ← why.offset_is) why.outside)
 
     cfa_at : (cfa : ℕ) → ¬ Rule24 (shape_of s) found.row process → CfaIs registers found.row cfa
         → CfaAt s stack process registers found.row cfa
@@ -221,14 +221,14 @@ module _ (s stack : List ℕ) (process : Process) (registers : Registers) where
         → step_in s stack process registers ≡ Refused registers (number_of_refusal cfaLow)
     cfa_low_implies callersp sp first why =
         refusal_given s stack process registers cfaLow
-        (_, why.cfa, cfa_at why.cfa why.not-24 why.cfa-is, rw (← why.callersp-is, ← why.sp-is, ← why.first_is) why.low)
+        (_, why.cfa, cfa_at why.cfa why.not_24 why.cfa_is, rw (← why.callersp_is, ← why.sp_is, ← why.first_is) why.low)
 
     -- 27
     pub ra_lost_implies : (first : ℕ) → WhyRaLost s stack process registers found.row first
         → step_in s stack process registers ≡ Refused registers (number_of_refusal raLost)
     ra_lost_implies first why =
         refusal_given s stack process registers raLost
-        (_, why.cfa, cfa_at why.cfa why.not-24 why.cfa-is, why.not-26, (why.no_place, sym why.first_is ∙ why.unmarked))
+        (_, why.cfa, cfa_at why.cfa why.not_24 why.cfa_is, why.not_26, (why.no_place, sym why.first_is ∙ why.unmarked))
 
     -- 28
     pub word_outside_implies : (word : Needed) (cfa : ℕ) (offset : Offset) (lies size : ℕ)
@@ -239,10 +239,10 @@ module _ (s stack : List ℕ) (process : Process) (registers : Registers) where
         (_, cfa, words, by_word word why.needed)
       where
         words : WordsAt s stack process registers found.row cfa
-        words = record { cfa_at = cfa_at cfa why.not-24 why.cfa-is; not_26 = why.not-26; not_27 = why.not-27 }
+        words = record { cfa_at = cfa_at cfa why.not_24 why.cfa_is; not_26 = why.not_26; not_27 = why.not_27 }
 
         out : {place : Place} → place ≡ AtOffset offset → Outside stack process.stack cfa place
-        out e = rw e (rw (← why.lies-is, ← why.size_is) why.outside)
+        out e = rw e (rw (← why.lies_is, ← why.size_is) why.outside)
 
         by_word : (word : Needed) → NeededAt s stack process registers found.row word cfa offset
             → Outside stack process.stack cfa found.row.ra ⊎ Outside stack process.stack cfa found.row.fp
@@ -257,13 +257,13 @@ module _ (s stack : List ℕ) (process : Process) (registers : Registers) where
         (record {
           row = found.row;
           cfa = cfa;
-          words_at = record { cfa_at = cfa_at cfa why.not-24 why.cfa-is; not_26 = why.not-26; not_27 = why.not-27 };
+          words_at = record { cfa_at = cfa_at cfa why.not_24 why.cfa_is; not_26 = why.not_26; not_27 = why.not_27 };
           ra = ra;
-          ra_is = why.ra-is;
-          pc_is = why.pc-is;
-          sp_is = why.sp-is;
-          fp_is = why.fp-is;
-          lr_is = why.lr-is;
+          ra_is = why.ra_is;
+          pc_is = why.pc_is;
+          sp_is = why.sp_is;
+          fp_is = why.fp_is;
+          lr_is = why.lr_is;
           first_is = why.first_is;
         })
 

@@ -237,7 +237,7 @@ exported_trace_runs s stack process registers limit old σ section-bytes stack-b
       end.after,
       end.ends,
       (
-        subst (λ z. StandsFor traced-type.the_row z end.value) (ap (λ both. both.answer) same) end.stands-for,
+        subst (λ z. StandsFor traced-type.the_row z end.value) (ap (λ both. both.answer) same) end.stands_for,
         subst (λ ws. BufferHas end.after (length old) ws) (ap (λ both. both.words) same) loaded,
       ),
     )

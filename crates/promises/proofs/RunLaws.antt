@@ -147,5 +147,5 @@ module _ {n : ℕ} {ps : List (ParamKind n)} {r : ResultKind n} {Learnt : Out n 
         end.value,
         end.after,
         end.ends,
-        subst (λ y. StandsFor (res_t r κs) y end.value) (only-z end.reply end.last end.allowed) end.stands-for,
+        subst (λ y. StandsFor (res_t r κs) y end.value) (only-z end.reply end.last end.allowed) end.stands_for,
       )

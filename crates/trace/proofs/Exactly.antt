@@ -246,7 +246,7 @@ module _ (s stack : List ℕ) (process : Process) (registers : Registers) (limit
   words_follow k lt =
       let is = frames_follow.written k (rw frame_count at lt) in
       let (cfa, ra, fp) = words_written k lt in
-      let row-cfa = ap cfa_of_sp (step_of k lt).sp-is ∙ cfa_of_caller (step_of k lt).cfa in
+      let row-cfa = ap cfa_of_sp (step_of k lt).sp_is ∙ cfa_of_caller (step_of k lt).cfa in
       (cfa ∙ ap (λ f. f.cfa) is ∙ row-cfa, ra ∙ ap (λ f. f.ra) is, fp ∙ ap (λ f. f.fp) is)
 
   -- "Words after the written frames keep what they held."

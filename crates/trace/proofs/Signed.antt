@@ -63,15 +63,15 @@ module _ (s stack : List ℕ) (process : Process) (registers : Registers) (limit
 
   -- the word written of frame k is RA as it was read with the mask's bits cleared
   pub ra_written : (k : ℕ) (lt : k < reply.answer.frames) → get_or reply.words (3 * k + 1) 0 ≡ clear (cleared k lt) (step k lt).ra
-  ra_written k lt = (trace.words_follow s stack process registers limit old k lt).1 ∙ (step k lt).pc-is
+  ra_written k lt = (trace.words_follow s stack process registers limit old k lt).1 ∙ (step k lt).pc_is
 
   -- where it is not 0, the PC asked next is one below it
   pub asked_next : (k : ℕ) (lt : k < reply.answer.frames) → ¬ (clear (cleared k lt) (step k lt).ra ≡ 0)
       → asked_of (at (suc k)) ≡ At (clear (cleared k lt) (step k lt).ra - 1)
   asked_next k lt far =
       let less = rw (trace.frame_count s stack process registers limit old) at lt in
-      asked_later s stack process registers (trace.frames_follow s stack process registers limit old) k less (λ e. far (sym (step k lt).pc-is ∙ e))
-      ∙ ap (λ pc. At (pc - 1)) (step k lt).pc-is
+      asked_later s stack process registers (trace.frames_follow s stack process registers limit old) k less (λ e. far (sym (step k lt).pc_is ∙ e))
+      ∙ ap (λ pc. At (pc - 1)) (step k lt).pc_is
 
   -- with mask 0 it is RA as it was read
   pub ra_as_read : process.mask ≡ 0 → (k : ℕ) (lt : k < reply.answer.frames) → get_or reply.words (3 * k + 1) 0 ≡ (step k lt).ra
