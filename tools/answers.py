@@ -51,6 +51,7 @@ class Function:
         """The path below c of a field of an earlier place, seen from the place `at`."""
         if place == "Start":
             return ".".join([named(path[0])] + self.labelled(None, path))
+        path = [it.replace("type-inv", "type_inv") for it in path]
         old = path[0]
         rest = path[1:]
         if alike(old) != alike(self.step(place)[0]):
@@ -230,6 +231,25 @@ def blocks(text):
     return head, uses, out
 
 
+def fresh(text, name):
+    """Gives a function's variable that has a live variable's name another, in the brackets that it stands in."""
+    out = ""
+    while True:
+        m = re.search(r"\(λ " + re.escape(name) + r"\. ", text)
+        if not m:
+            return out + text
+        depth, end = 0, len(text)
+        for k in range(m.start(), len(text)):
+            depth += text[k] in "([{"
+            depth -= text[k] in ")]}"
+            if depth == 0:
+                end = k + 1
+                break
+        new = {"i": "j", "k": "m", "n": "m"}.get(name, name + "'")
+        out += text[: m.start()] + re.sub(r"(?<![\w.\-'])" + re.escape(name) + r"(?![\w\-'])", new, text[m.start() : end])
+        text = text[end:]
+
+
 def arguments(text):
     """The arguments of a call, by their brackets."""
     out, depth, word = [], 0, ""
@@ -300,6 +320,9 @@ def turn_body(fn, text, env, goal, here=None):
     text = PATH.sub(one, text)
     text = re.sub(r"(" + W + r") c⟪(" + W + r")⟫", copy, text)
     text = re.sub(r"\(c⟪" + W + r"⟫ :", "(c :", text)
+    # What a test of `!x` says is said of x itself.
+    text = re.sub(r"\(not-(?:true|false) _ (c\.if-not[^\s()]*\.(?:true|false))\)", r"\1", text)
+    text = re.sub(r"not-(?:true|false) _ (c\.if-not[^\s()]*\.(?:true|false))", r"\1", text)
     if "⟪" in text:
         say(fn.path, f"a record is passed on: {text[max(0, text.index('⟪') - 40):][:80]}")
     return text
@@ -387,7 +410,10 @@ def turn(fn, text):
             if len(params) != len(order):
                 say(fn.path, f"loop {new}: {params} for {order}")
             table = dict(zip(params, order))
-            text_ = PATH.sub(lambda p: table[p[1]] + p[2] if p[1] in table else p[0], bm[3])
+            inside = bm[3]
+            for b in sorted(set(re.findall(r"λ (" + W + r")\.", inside)) & set(table)):
+                inside = fresh(inside, b)
+            text_ = PATH.sub(lambda p: table[p[1]] + p[2] if p[1] in table else p[0], inside)
             invariants.append(d["comment"] + [f"abbrev pub {im[1]}-{new} : goal.{im[1]}-{new}", f"{im[1]}-{new} l ={bm[2]}{text_}"])
             continue
         needs = d.get("needs", [])

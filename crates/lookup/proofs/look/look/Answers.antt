@@ -1,0 +1,30 @@
+-- `look::look` finds the covering function as `covering` lists it, since the section is accepted, and then its row.
+-- Assumes nothing.
+use mathlib.Core.Path.{◌≡◌, ◌∙◌, ap}
+use Rattle.numbers.specs.Start.{distance}
+use Rattle.section.specs.Meaning.{functions_of}
+use Rattle.lookup.specs.Computed.Answers.{outcome, answer, answer_of}
+use Rattle.lookup.specs.Computed.Covering.{covering, cover_of}
+use Rattle.lookup.specs.Inner.Search.{search_of}
+use Rattle.lookup.proofs.LookLaws.{accepted_header}
+use Rattle.lookup.proofs.SearchLaws.{search_finds_covering}
+use Rattle.lookup.proofs.look.look.Goals as goal
+use Rattle.lookup.proofs.look.look.Goals.{After-find-search}
+
+pub find-search-requires : goal.find-search-requires
+find-search-requires c = accepted_header c.requires
+
+found : (c : After-find-search)
+    → c.find-search.result.cover
+    ≡ cover_of (covering (distance c.args.address c.args.pc) (functions_of c.args.section.now))
+unfolding search_of
+found c =
+    rw c.requires.layout_is at (ap (λ r. r.cover) c.find-search.ensures) ∙ search_finds_covering _ c.requires.accepted _
+
+pub with_cover-requires : goal.with_cover-requires
+with_cover-requires c = (c.requires, found c)
+
+pub returns : goal.returns
+unfolding answer_of answer outcome search_of
+returns c =
+    rw (c.with_cover.ensures, found (goal.at.returns c).After-find-search, c.find-search.ensures, c.requires.layout_is)

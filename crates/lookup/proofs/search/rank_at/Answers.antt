@@ -1,0 +1,32 @@
+-- `search::rank_at` reads the start field of entry i, which lies in the section, and adds its place under flag 0x4.
+-- Assumes nothing.
+use borrow.Author.Rules.{rules}
+use native.Mathlib.Omega.{arith}
+use mathlib.Core.Path.{◌≡◌}
+use Prim.Native.Nat.{◌+◌, ◌<◌, ◌^◌}
+use Rattle.numbers.specs.Inner.Held.{rank}
+use Rattle.numbers.proofs.HeldLaws.{held_rank}
+use Rattle.lookup.proofs.TableLaws.{entry_room, entry_place, field_held}
+use Rattle.lookup.proofs.search.rank_at.Goals as goal
+
+pub overflow_mul-at : goal.overflow_mul-at
+overflow_mul-at c = let pre = c.requires in omega (arith, entry_place pre.0.header _ pre.1)
+
+pub overflow_add-at : goal.overflow_add-at
+overflow_add-at c = let pre = c.requires in omega (arith, entry_place pre.0.header _ pre.1)
+
+pub u32_at-requires : goal.u32_at-requires
+u32_at-requires c = let pre = c.requires in omega (arith, entry_room pre.0.header _ pre.1)
+
+pub overflow_add-result : goal.overflow_add-result
+overflow_add-result c =
+    let pre = c.requires in
+    omega (arith, c.rank_of.ensures.range, c.position_at.ensures.range, entry_place pre.0.header _ pre.1)
+
+pub returns : goal.returns
+returns c =
+    let small : c.position_at.result < 2 ^ 32 = omega (arith, c.position_at.ensures.range, entry_place c.requires.0.header _ c.requires.1) in
+    let held = held_rank c.u32_at.result c.position_at.result (search rules) small in
+    let same : c.rank_of.result + c.position_at.result + 2147483648
+    ≡ rank c.u32_at.result + 2147483648 + c.position_at.result = omega (arith, c.rank_of.ensures.value) in
+    field_held c.requires.0 _ c.u32_at.ensures c.position_at.ensures.value (rw same held)
