@@ -215,6 +215,10 @@ def blocks(text):
                 comment.append(line)
         elif not line.strip():
             continue
+        elif line.startswith("module "):
+            current = {"name": "module", "comment": comment, "lines": [line]}
+            comment = []
+            out.append(current)
         elif line.startswith("unfolding "):
             current["lines"].append(line)
         elif line.startswith(" "):

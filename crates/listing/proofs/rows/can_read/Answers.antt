@@ -3,7 +3,6 @@
 use native.Mathlib.Omega.{arith}
 use mathlib.Core.Path.{◌≡◌, sym, ◌∙◌}
 use mathlib.Core.Bool.{true}
-use borrow.Author.Tests.{not-true, not-false}
 use Rattle.section.specs.Row.{info_of}
 use Rattle.listing.specs.Computed.Turns.{names_offsets, has_fixed, can_read}
 use Rattle.listing.proofs.TurnLaws.{fixed_inside, read_short, read_whole}
@@ -11,14 +10,14 @@ use Rattle.listing.proofs.rows.can_read.Goals as goal
 use Rattle.listing.proofs.rows.can_read.Goals.{Else-not-has_fixed, Else-not-names_offsets}
 
 fixed : (c : Else-not-has_fixed) → has_fixed c.args.section.now c.args.code c.args.at ≡ true
-fixed c = sym c.has_fixed.ensures ∙ not-false _ c.if-not-has_fixed.false
+fixed c = sym c.has_fixed.ensures ∙ c.if-not-has_fixed.false
 
 named : (c : Else-not-names_offsets) → names_offsets (info_of c.args.section.now c.args.code c.args.at) ≡ true
-named c = rw c.info_at.ensures at (sym c.names_offsets.ensures ∙ not-false _ c.if-not-names_offsets.false)
+named c = rw c.info_at.ensures at (sym c.names_offsets.ensures ∙ c.if-not-names_offsets.false)
 
 pub returns-then-not-has_fixed : goal.returns-then-not-has_fixed
 unfolding can_read
-returns-then-not-has_fixed c = rw (sym c.has_fixed.ensures ∙ not-true _ c.if-not-has_fixed.true)
+returns-then-not-has_fixed c = rw (sym c.has_fixed.ensures ∙ c.if-not-has_fixed.true)
 
 pub info_at-requires : goal.info_at-requires
 info_at-requires c = fixed_inside _ _ _ (fixed c)
@@ -26,7 +25,7 @@ info_at-requires c = fixed_inside _ _ _ (fixed c)
 pub returns-then-not-names_offsets : goal.returns-then-not-names_offsets
 unfolding can_read
 returns-then-not-names_offsets c =
-    rw (fixed (goal.at.returns-then-not-names_offsets c).Else-not-has_fixed, rw c.info_at.ensures at (sym c.names_offsets.ensures ∙ not-true _ c.if-not-names_offsets.true))
+    rw (fixed (goal.at.returns-then-not-names_offsets c).Else-not-has_fixed, rw c.info_at.ensures at (sym c.names_offsets.ensures ∙ c.if-not-names_offsets.true))
 
 pub overflow_sub-section : goal.overflow_sub-section
 overflow_sub-section c = omega (arith, (fixed_inside _ _ _ (fixed (goal.at.overflow_sub-section c).Else-not-has_fixed)).1)
