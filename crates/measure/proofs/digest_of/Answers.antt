@@ -1,0 +1,24 @@
+-- `measure::digest_of` folds the answers in one by one: the digest of the PCs left, from the digest so far, is the digest of all.
+-- Assumes nothing.
+use native.Mathlib.Numerals.{add-one}
+use native.Mathlib.Omega.{arith}
+use mathlib.Core.Path.{refl}
+use Prim.Native.Nat.{ℕ, ◌-◌}
+use lib.ListN.{drop_of_length-le}
+use lib.Seq.{drop-cons}
+use Rattle.measure.specs.Digest.{digest_from}
+use Rattle.measure.proofs.digest_of.Goals as goal
+
+pub loop-k-init : goal.loop-k-init
+loop-k-init c = (omega arith, refl)
+
+pub loop-k-preserved : goal.loop-k-preserved
+unfolding digest_from
+loop-k-preserved c =
+    let loop = c.loop-k in
+    let left = rw (drop-cons {A = ℕ} _ loop.k 0 c.loop-k-test.true) at loop.invariant.1 in
+    (omega arith, rw (add-one loop.k, c.weight_of.ensures.value, c.look-answer.ensures) left)
+
+pub returns : goal.returns
+unfolding digest_from
+returns c = rw (drop_of_length-le _ c.loop-k-test.false) at c.loop-k.invariant.1
