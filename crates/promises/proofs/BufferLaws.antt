@@ -6,7 +6,7 @@ use mathlib.Core.List.{List, [], ◌∷◌, map}
 use mathlib.Core.Logic.{∥∥₁_prop, ∥∥₁_elim}
 use mathlib.Core.Option.{some-injective}
 use Prim.Native.Nat.{ℕ, ◌+◌}
-use seplogic.Ra.TreeShare.{full_share}
+use base.Fraction.{full_share}
 use lib.Dec.{T}
 use lib.ListN.{length, length-map}
 use mir.Syntax.{w64, named, ty_int}
@@ -31,7 +31,7 @@ use denote.Steps.{nothing}
 use Rattle.promises.specs.Returns.{Assertion, ◌∗◌, ◌has◌}
 use Rattle.promises.specs.Runs.{whole, buffer_type, words_value, WithBuffer, BufferHas}
 use Rattle.promises.proofs.ReturnLaws.{𝓤, H, 𝓜, A}
-use Rattle.promises.proofs.RunLaws.{W, hold, Lends, referred}
+use Rattle.promises.proofs.RunLaws.{W, hold, Lends, referred_to_write}
 
 -- ---- words as one array, and one by one
 
@@ -43,11 +43,11 @@ Elements ws o = elems 𝓤 H full_share (ty_int w64) 2 o (map (vint w64) ws)
 
 one_by_one : (ws : List ℕ) (o : ℕ) → ent 𝓤 (Elements ws o) (meaning 𝓤 H A (cells (mem u64) ws 2 o))
 one_by_one [] o = id⊢ 𝓤 (emp 𝓤)
-one_by_one (x ∷ ws) o = mono∗ 𝓤 (uint_in 𝓤 H A W full_share w64 x 2 o) (one_by_one ws (o + 8))
+one_by_one (x ∷ ws) o = mono∗ 𝓤 (uint_in W full_share w64 x 2 o) (one_by_one ws (o + 8))
 
 together : (ws : List ℕ) (o : ℕ) → ent 𝓤 (meaning 𝓤 H A (cells (mem u64) ws 2 o)) (Elements ws o)
 together [] o = id⊢ 𝓤 (emp 𝓤)
-together (x ∷ ws) o = mono∗ 𝓤 (uint_out 𝓤 H A W full_share w64 x 2 o) (together ws (o + 8))
+together (x ∷ ws) o = mono∗ 𝓤 (uint_out W full_share w64 x 2 o) (together ws (o + 8))
 
 words_in : (n : ℕ) (ws : List ℕ) → ent 𝓤 (Buffer n ws) (meaning 𝓤 H A (cells (mem u64) ws 2 0))
 words_in n ws = via 𝓤 (Elements ws 0) (𝓜.at_elems full_share (ty_int w64) n 2 0 (map (vint w64) ws)) (one_by_one ws 0)
@@ -121,7 +121,7 @@ module _ (s stack old : List ℕ) where
 
 module _ (j : ℕ) (ws : List ℕ) where
   abbrev pub words : ℕ → GName → Assertion
-  words α γ = meaning 𝓤 H A ((MutSlice (named j) (α ∷ []) u64).own_val (referred 2 ws γ) (whole 2 ws ∷ []))
+  words α γ = meaning 𝓤 H A ((MutSlice (named j) (α ∷ []) u64).own_val (referred_to_write 2 ws γ) (whole 2 ws ∷ []))
 
   abbrev pub words_kept : ℕ → GName → Assertion
   words_kept α γ = A.lent (α ∷ []) (Held u64 (length ws) 2 0 γ)
@@ -130,7 +130,7 @@ module _ (j : ℕ) (ws : List ℕ) where
   lends_words room =
       qed W (raw (Buffer (length ws) ws) ∷ []) ∵ updating ! $ use1 W (‵ (cells (mem u64) ws 2 0)) (words_in (length ws) ws) $
       lft_new ! tt (λ α. move ! (1 ∷ []) $
-      use1 W (later (some (λ (γ : GName). raw (words α γ) ⊛ raw (words_kept α γ)))) (lends_slice 𝓤 H A W u64 (named j) (α ∷ []) ws 2 0 room) $
+      use1 W (later (some (λ (γ : GName). raw (words α γ) ⊛ raw (words_kept α γ)))) (lends_slice W u64 (named j) (α ∷ []) ws 2 0 room) $
       await ! tt $ pick ! (λ γ. split ! $ at_once ! $
       show ! (λ β. ex 𝓤 (λ δ. hold β ∗ words β δ ∗ words_kept β δ)) α $ show ! (λ δ. hold α ∗ words α δ ∗ words_kept α δ) γ $
       move ! (2 ∷ 0 ∷ 1 ∷ []) $ done !))
@@ -144,7 +144,7 @@ module _ (n : ℕ) (α : ℕ) (γ : GName) (ws : List ℕ) where
   taken_back : ent 𝓤 Back (H.⇛ (Buffer n ws))
   taken_back =
       qed W (‵ (flft (α ∷ []) full_share) ∷ ‵ (finally u64 γ ws) ∷ ‵ (flent (α ∷ []) (Held u64 n 2 0 γ)) ∷ []) ∵ updating ! $ lft_end ! tt $
-      move ! (0 ∷ 2 ∷ []) $ use3 W (later (‵ ((Arr (mem u64) n).own_at ws 2 0))) (slice_back 𝓤 H A W u64 (α ∷ []) γ ws n 2 0) $
+      move ! (0 ∷ 2 ∷ []) $ use3 W (later (‵ ((Arr (mem u64) n).own_at ws 2 0))) (slice_back W u64 (α ∷ []) γ ws n 2 0) $
       await ! tt $ at_once ! $ by ! (words_out n ws)
 
   pub buffer_has : (σ : Memory) (P : Assertion) → ent 𝓤 P Back → σ has P → ∥ BufferHas σ n ws ∥₁

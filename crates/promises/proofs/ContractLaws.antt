@@ -13,7 +13,7 @@ use Rattle.trace.specs.Computed.Trace.{trace_of}
 use Rattle.promises.specs.Calls.{Calls}
 use Rattle.promises.specs.StatedContracts.{Keeps, GivenBy}
 use Rattle.promises.specs.Computed.Ours.{ours}
-use Rattle.promises.specs.Inner.Lent.{Lies, lent}
+use Rattle.promises.specs.Inner.Lent.{Lies, lent, lent_to_write}
 
 pub contracts_give : GivenBy ours
 unfolding ours
@@ -53,4 +53,4 @@ module _ (calls : Calls) (keeps : Keeps calls) where
       → calls.trace s stack process registers limit old ≡ trace_of s stack process registers limit old
   unfolding traced_as
   trace_is s stack process registers limit old =
-      keeps.trace ([], ([], ([], tt))) (lent somewhere s, (lent somewhere stack, (process, (registers, (limit, (lent somewhere old, tt))))))
+      keeps.trace ([], ([], ([], tt))) (lent somewhere s, (lent somewhere stack, (process, (registers, (limit, (lent_to_write somewhere old, tt))))))

@@ -10,7 +10,7 @@ use Rattle.promises.specs.StatedContracts.{Keeps}
 use Rattle.promises.specs.Exported.{FlatCalls, read_calls, flat_calls, exported, FlatKeeps, FlatGivenBy, FlatDemands, FlatPromised}
 use Rattle.promises.specs.Table.{Holds, table, aarch64_table, last_call_table, signed_table, limit_table}
 use Rattle.promises.specs.Computed.Ours.{ours}
-use Rattle.promises.specs.Inner.Lent.{lent}
+use Rattle.promises.specs.Inner.Lent.{lent, lent_to_write}
 use Rattle.promises.proofs.ContractLaws.{contracts_kept, somewhere}
 use Rattle.promises.proofs.Kept.{promises_kept, table_kept, aarch64_kept, last_calls_kept, signed_rows_kept, limits_kept}
 use Rattle.promises.proofs.NoChoice.{demands_ours_alone}
@@ -48,7 +48,7 @@ flat_are_exported flat keeps =
     (λ s address pc. keeps.lookup ([], tt) (lent somewhere s, (address, (pc, tt))))
     (λ s stack process registers. keeps.step ([], ([], tt)) (lent somewhere s, (lent somewhere stack, (process, (registers, tt)))))
     (λ s stack process registers limit old.
-    keeps.trace ([], ([], ([], tt))) (lent somewhere s, (lent somewhere stack, (process, (registers, (limit, (lent somewhere old, tt)))))))
+    keeps.trace ([], ([], ([], tt))) (lent somewhere s, (lent somewhere stack, (process, (registers, (limit, (lent_to_write somewhere old, tt)))))))
 
 -- ---- and stand for ours
 

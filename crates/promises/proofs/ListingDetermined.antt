@@ -29,7 +29,7 @@ use Rattle.listing.proofs.rows.row_turn.Reads as row_turn-reads
 use Rattle.listing.specs.declared.rows.RowTurn.{RowTurn}
 use Rattle.promises.specs.ByClauses.{DeterminedBy}
 use Rattle.promises.specs.Determined.{Determined}
-use Rattle.promises.specs.ReaderSays.{reader_says, turn_says}
+use Rattle.promises.specs.ReaderSays.{reader_clauses, turn_clauses, reader_says, turn_says}
 
 pub function_at_determined : Determined function_at-kinds.ps function_at-kinds.r function_at-reads.Learnt
 function_at_determined κs a z z' w w' p q = (p ∙ sym q, refl)
@@ -63,14 +63,14 @@ place_of_determined κs a z z' w w' p q = (p ∙ sym q, refl)
 
 -- ---- what has a reader: a reader is what it holds, so that two with equal parts are equal
 
-pub reader_of_determined : DeterminedBy reader_of.ended reader_of.clauses
+pub reader_of_determined : DeterminedBy reader_of.ended reader_clauses
 reader_of_determined =
     record {
       says = reader_says;
       determined = λ κs a z z' w w' p q. (λ i. record { section = (p.0 ∙ sym q.0) i; place = (p.1 ∙ sym q.1) i }, refl);
     }
 
-pub next_row_determined : DeterminedBy next_row.ended next_row.clauses
+pub next_row_determined : DeterminedBy next_row.ended turn_clauses
 next_row_determined =
     record {
       says = turn_says;

@@ -6,7 +6,7 @@ use mathlib.Core.List.{List, [], ◌∷◌}
 use mathlib.Core.Logic.{∥∥₁_prop, ∥∥₁_elim, ∥∥₁_map}
 use Prim.Native.Nat.{ℕ, ◌<◌, ◌^◌}
 use native.Mathlib.Omega.{arith}
-use seplogic.Ra.TreeShare.{full_share}
+use base.Fraction.{full_share}
 use lib.ListN.{length}
 use mir.Syntax.{w64}
 use mir.Val.{Val, vint}
@@ -14,6 +14,8 @@ use base.Fml.{GName, ftrue}
 use base.Logic.{ent, emp}
 use prog.AdequacyRun.{start_mem}
 use prog.Memory.{Memory}
+use prog.Routine.{Env}
+use prog.Wired.{Wired}
 use ghost.Atoms.{meaning}
 use types.Kit.{‵, raw, ◌⊛◌, ◌$◌, ◌∵◌, !, qed, move, keep, drop, split, split3, fsplit, done}
 use contract.Adequate.{start_Satisfies, sat_weaken}
@@ -60,7 +62,7 @@ use Rattle.promises.proofs.BufferLaws.{Buffer, words, words_kept, lends_words, c
 use Rattle.promises.proofs.ExportedKept.{exports_give}
 use Rattle.promises.proofs.ReturnLaws.{𝓤, H, 𝓜, A}
 use Rattle.promises.proofs.Returned.{exported_check_returns, exported_function_at_returns, exported_rows_of_returns, exported_next_row_returns, exported_lookup_returns, exported_ask_returns, exported_caller_returns, exported_trace_returns}
-use Rattle.promises.proofs.RunLaws.{W, hold, Ready, nothing_yet, and_value, and_lent, referred, Block, slice, slice_kept, lends_bytes, run_ends, runs}
+use Rattle.promises.proofs.RunLaws.{W, hold, Ready, nothing_yet, and_value, and_lent, referred, referred_to_write, Block, slice, slice_kept, lends_bytes, run_ends, runs}
 
 -- ---- what is handed in
 
@@ -82,101 +84,101 @@ and_slice F j s b bytes = and_lent (Block b s) (slice j s b) (slice_kept j s b) 
 
 -- a word, and the three structs, which are had for nothing
 word : (n : ℕ) → n < 2 ^ 64 → ent 𝓤 (emp 𝓤) (meaning 𝓤 H A (u64.own_val n (vint w64 n ∷ [])))
-word n fits = uint_Makes 𝓤 H A W w64 n (vint w64 n ∷ []) (refl, fits)
+word n fits = uint_Makes W w64 n (vint w64 n ∷ []) (refl, fits)
 
 the_process : (process : Process) → ProcessFits process → ent 𝓤 (emp 𝓤) (meaning 𝓤 H A ((process-type.the_row).own_val process (process_value process ∷ [])))
-the_process process fits = struct_laws.makes process-type.the_type process-laws.the_plain 𝓤 H A process (process_value process ∷ []) fits
+the_process process fits = struct_laws.makes process-type.the_type process-laws.the_plain W process (process_value process ∷ []) fits
 
 the_registers : (registers : Registers) → RegistersFit registers
     → ent 𝓤 (emp 𝓤) (meaning 𝓤 H A ((registers-type.the_row).own_val registers (registers_value registers ∷ [])))
-the_registers registers fit = struct_laws.makes registers-type.the_type registers-laws.the_plain 𝓤 H A registers (registers_value registers ∷ []) fit
+the_registers registers fit = struct_laws.makes registers-type.the_type registers-laws.the_plain W registers (registers_value registers ∷ []) fit
 
 the_rows : (rows : RowsInC) → RowsFit rows → ent 𝓤 (emp 𝓤) (meaning 𝓤 H A ((rows-type.the_row).own_val rows (rows_value rows ∷ [])))
-the_rows rows fit = struct_laws.makes rows-type.the_type rows-laws.the_plain 𝓤 H A rows (rows_value rows ∷ []) fit
+the_rows rows fit = struct_laws.makes rows-type.the_type rows-laws.the_plain W rows (rows_value rows ∷ []) fit
 
 -- ---- the runs
 
-pub exported_check_runs : (s : List ℕ) → Bytes s
-    → Runs exported-check.Symbol.routine (whole 0 s ∷ []) (start_mem s []) (λ value after. StandsFor verdict-type.the_row (exported.check s) value)
-exported_check_runs s bytes =
+pub exported_check_runs : (γ : Env) → Wired γ exported-check.Symbol.code → (s : List ℕ) → Bytes s
+    → Runs (γ exported-check.Symbol.name) (whole 0 s ∷ []) (start_mem s []) (λ value after. StandsFor verdict-type.the_row (exported.check s) value)
+exported_check_runs γ wired s bytes =
     ∥∥₁_elim (and_slice (emp 𝓤) 0 s 0 bytes (nothing_yet (one_block s bytes))) ∥∥₁_prop λ lent.
-    let (α, γ, all) = lent in
+    let (α, δ, all) = lent in
     let κs : Lfts 1 = (α ∷ [], tt) in
-    let a : Dens κs exported-check.Kinds.ps = (referred 0 s γ, tt) in
-    runs exported_check_returns κs tt (full_share, tt) a all (λ z w. (exports_give.check κs a z).0)
+    let a : Dens κs exported-check.Kinds.ps = (referred 0 s, tt) in
+    runs (exported_check_returns γ wired) κs tt (full_share, tt) a (whole 0 s ∷ [], tt) all (λ z w. (exports_give.check κs a z).0)
 
-pub exported_function_at_runs : (s : List ℕ) (index : ℕ) → Bytes s → index < 2 ^ 64
-    → Runs exported-function_at.Symbol.routine (whole 0 s ∷ vint w64 index ∷ []) (start_mem s [])
+pub exported_function_at_runs : (γ : Env) → Wired γ exported-function_at.Symbol.code → (s : List ℕ) (index : ℕ) → Bytes s → index < 2 ^ 64
+    → Runs (γ exported-function_at.Symbol.name) (whole 0 s ∷ vint w64 index ∷ []) (start_mem s [])
     (λ value after. StandsFor function-type.the_row (exported_function s index) value)
 unfolding exported_function
-exported_function_at_runs s index bytes index-fits =
+exported_function_at_runs γ wired s index bytes index-fits =
     ∥∥₁_elim (and_slice (emp 𝓤) 0 s 0 bytes (and_value (word index index-fits) (nothing_yet (one_block s bytes)))) ∥∥₁_prop λ lent.
-    let (α, γ, all) = lent in
+    let (α, δ, all) = lent in
     let κs : Lfts 1 = (α ∷ [], tt) in
-    let a : Dens κs exported-function_at.Kinds.ps = (referred 0 s γ, (index, tt)) in
-    runs exported_function_at_returns κs tt (full_share, tt) a all (λ z w allowed. allowed)
+    let a : Dens κs exported-function_at.Kinds.ps = (referred 0 s, (index, tt)) in
+    runs (exported_function_at_returns γ wired) κs tt (full_share, tt) a (whole 0 s ∷ [], (vint w64 index ∷ [], tt)) all (λ z w allowed. allowed)
 
-pub exported_rows_of_runs : (s : List ℕ) (index : ℕ) → Bytes s → index < 2 ^ 64
-    → Runs exported-rows_of.Symbol.routine (whole 0 s ∷ vint w64 index ∷ []) (start_mem s [])
+pub exported_rows_of_runs : (γ : Env) → Wired γ exported-rows_of.Symbol.code → (s : List ℕ) (index : ℕ) → Bytes s → index < 2 ^ 64
+    → Runs (γ exported-rows_of.Symbol.name) (whole 0 s ∷ vint w64 index ∷ []) (start_mem s [])
     (λ value after. StandsFor rows-type.the_row (exported_rows.begin s index) value)
 unfolding exported_rows
-exported_rows_of_runs s index bytes index-fits =
+exported_rows_of_runs γ wired s index bytes index-fits =
     ∥∥₁_elim (and_slice (emp 𝓤) 0 s 0 bytes (and_value (word index index-fits) (nothing_yet (one_block s bytes)))) ∥∥₁_prop λ lent.
-    let (α, γ, all) = lent in
+    let (α, δ, all) = lent in
     let κs : Lfts 1 = (α ∷ [], tt) in
-    let a : Dens κs exported-rows_of.Kinds.ps = (referred 0 s γ, (index, tt)) in
-    runs exported_rows_of_returns κs tt (full_share, tt) a all (λ z w allowed. allowed)
+    let a : Dens κs exported-rows_of.Kinds.ps = (referred 0 s, (index, tt)) in
+    runs (exported_rows_of_returns γ wired) κs tt (full_share, tt) a (whole 0 s ∷ [], (vint w64 index ∷ [], tt)) all (λ z w allowed. allowed)
 
-pub exported_next_row_runs : (s : List ℕ) (rows : RowsInC) → Bytes s → RowsFit rows
-    → Runs exported-next_row.Symbol.routine (whole 0 s ∷ rows_value rows ∷ []) (start_mem s [])
+pub exported_next_row_runs : (γ : Env) → Wired γ exported-next_row.Symbol.code → (s : List ℕ) (rows : RowsInC) → Bytes s → RowsFit rows
+    → Runs (γ exported-next_row.Symbol.name) (whole 0 s ∷ rows_value rows ∷ []) (start_mem s [])
     (λ value after. StandsFor row_type.the_row (exported_rows.next s rows) value)
 unfolding exported_rows
-exported_next_row_runs s rows bytes rows_fit =
+exported_next_row_runs γ wired s rows bytes rows_fit =
     ∥∥₁_elim (and_slice (emp 𝓤) 0 s 0 bytes (and_value (the_rows rows rows_fit) (nothing_yet (one_block s bytes)))) ∥∥₁_prop λ lent.
-    let (α, γ, all) = lent in
+    let (α, δ, all) = lent in
     let κs : Lfts 1 = (α ∷ [], tt) in
-    let a : Dens κs exported-next_row.Kinds.ps = (referred 0 s γ, (rows, tt)) in
-    runs exported_next_row_returns κs tt (full_share, tt) a all (λ z w allowed. allowed)
+    let a : Dens κs exported-next_row.Kinds.ps = (referred 0 s, (rows, tt)) in
+    runs (exported_next_row_returns γ wired) κs tt (full_share, tt) a (whole 0 s ∷ [], (rows_value rows ∷ [], tt)) all (λ z w allowed. allowed)
 
-pub exported_lookup_runs : (s : List ℕ) (address pc : ℕ) → Bytes s → address < 2 ^ 64 → pc < 2 ^ 64
-    → Runs exported-lookup.Symbol.routine (whole 0 s ∷ vint w64 address ∷ vint w64 pc ∷ []) (start_mem s [])
+pub exported_lookup_runs : (γ : Env) → Wired γ exported-lookup.Symbol.code → (s : List ℕ) (address pc : ℕ) → Bytes s → address < 2 ^ 64 → pc < 2 ^ 64
+    → Runs (γ exported-lookup.Symbol.name) (whole 0 s ∷ vint w64 address ∷ vint w64 pc ∷ []) (start_mem s [])
     (λ value after. StandsFor answer-type.the_row (exported.lookup s address pc) value)
-exported_lookup_runs s address pc bytes address-fits pc-fits =
+exported_lookup_runs γ wired s address pc bytes address-fits pc-fits =
     ∥∥₁_elim
     (and_slice (emp 𝓤) 0 s 0 bytes (and_value (word address address-fits) (and_value (word pc pc-fits) (nothing_yet (one_block s bytes)))))
     ∥∥₁_prop λ lent.
-    let (α, γ, all) = lent in
+    let (α, δ, all) = lent in
     let κs : Lfts 1 = (α ∷ [], tt) in
-    let a : Dens κs exported-lookup.Kinds.ps = (referred 0 s γ, (address, (pc, tt))) in
-    runs exported_lookup_returns κs tt (full_share, tt) a all (λ z w. (exports_give.lookup κs a z).0)
+    let a : Dens κs exported-lookup.Kinds.ps = (referred 0 s, (address, (pc, tt))) in
+    runs (exported_lookup_returns γ wired) κs tt (full_share, tt) a (whole 0 s ∷ [], (vint w64 address ∷ [], (vint w64 pc ∷ [], tt))) all (λ z w. (exports_give.lookup κs a z).0)
 
-pub exported_ask_runs : (s : List ℕ) (address pc : ℕ) → Bytes s → address < 2 ^ 64 → pc < 2 ^ 64
-    → Runs exported-ask.Symbol.routine (whole 0 s ∷ vint w64 address ∷ vint w64 pc ∷ []) (start_mem s [])
+pub exported_ask_runs : (γ : Env) → Wired γ exported-ask.Symbol.code → (s : List ℕ) (address pc : ℕ) → Bytes s → address < 2 ^ 64 → pc < 2 ^ 64
+    → Runs (γ exported-ask.Symbol.name) (whole 0 s ∷ vint w64 address ∷ vint w64 pc ∷ []) (start_mem s [])
     (λ value after. StandsFor answer-type.the_row (exported_ask s address pc) value)
 unfolding exported_ask
-exported_ask_runs s address pc bytes address-fits pc-fits =
+exported_ask_runs γ wired s address pc bytes address-fits pc-fits =
     ∥∥₁_elim
     (and_slice (emp 𝓤) 0 s 0 bytes (and_value (word address address-fits) (and_value (word pc pc-fits) (nothing_yet (one_block s bytes)))))
     ∥∥₁_prop λ lent.
-    let (α, γ, all) = lent in
+    let (α, δ, all) = lent in
     let κs : Lfts 1 = (α ∷ [], tt) in
-    let a : Dens κs exported-ask.Kinds.ps = (referred 0 s γ, (address, (pc, tt))) in
-    runs exported_ask_returns κs tt (full_share, tt) a all (λ z w allowed. allowed)
+    let a : Dens κs exported-ask.Kinds.ps = (referred 0 s, (address, (pc, tt))) in
+    runs (exported_ask_returns γ wired) κs tt (full_share, tt) a (whole 0 s ∷ [], (vint w64 address ∷ [], (vint w64 pc ∷ [], tt))) all (λ z w allowed. allowed)
 
-pub exported_caller_runs : (s stack : List ℕ) (process : Process) (registers : Registers) → Bytes s → Bytes stack → ProcessFits process → RegistersFit registers
-    → Runs exported-caller.Symbol.routine (whole 0 s ∷ whole 1 stack ∷ process_value process ∷ registers_value registers ∷ []) (start_mem s stack)
+pub exported_caller_runs : (γ : Env) → Wired γ exported-caller.Symbol.code → (s stack : List ℕ) (process : Process) (registers : Registers) → Bytes s → Bytes stack → ProcessFits process → RegistersFit registers
+    → Runs (γ exported-caller.Symbol.name) (whole 0 s ∷ whole 1 stack ∷ process_value process ∷ registers_value registers ∷ []) (start_mem s stack)
     (λ value after. StandsFor step-type.the_row (exported.step s stack process registers) value)
-exported_caller_runs s stack process registers section-bytes stack-bytes process-fits registers-fit =
+exported_caller_runs γ wired s stack process registers section-bytes stack-bytes process-fits registers-fit =
     ∥∥₁_elim
     (and_slice (Block 0 s ∗ emp 𝓤) 1 stack 1 stack-bytes
     (and_value (the_process process process-fits) (and_value (the_registers registers registers-fit) (nothing_yet (two_blocks s stack section-bytes stack-bytes)))))
     ∥∥₁_prop λ stack-lent.
-    let (β, δ, second) = stack-lent in
+    let (β, ε, second) = stack-lent in
     ∥∥₁_elim (and_slice (emp 𝓤) 0 s 0 section-bytes second) ∥∥₁_prop λ lent.
-    let (α, γ, all) = lent in
+    let (α, δ, all) = lent in
     let κs : Lfts 2 = (α ∷ [], (β ∷ [], tt)) in
-    let a : Dens κs exported-caller.Kinds.ps = (referred 0 s γ, (referred 1 stack δ, (process, (registers, tt)))) in
-    runs exported_caller_returns κs tt (full_share, (full_share, tt)) a all (λ z w. (exports_give.step κs a z).0)
+    let a : Dens κs exported-caller.Kinds.ps = (referred 0 s, (referred 1 stack, (process, (registers, tt)))) in
+    runs (exported_caller_returns γ wired) κs tt (full_share, (full_share, tt)) a (whole 0 s ∷ [], (whole 1 stack ∷ [], (process_value process ∷ [], (registers_value registers ∷ [], tt)))) all (λ z w. (exports_give.step κs a z).0)
 
 -- ---- the trace
 
@@ -196,19 +198,19 @@ module _ (κs : Lfts 3) (qs : Shares 3) (a : Dens κs exported-trace.Kinds.ps) (
       ⊛ raw (meaning 𝓤 H A ((traced-type.the_row).own_val z (v ∷ [])))) ∷ (raw P ⊛ raw Q ⊛ raw R ⊛ ‵ ftrue) ∷ ‵ ftrue ∷ []) ∵
       -- nothing is said of the last values of the first five parameters
       split3 ! $ fsplit ! $ drop ! $ fsplit ! $ drop ! $ fsplit ! $ drop ! $ fsplit ! $ drop ! $ fsplit ! $ drop ! $ fsplit ! $ fsplit ! $
-      -- [the last words; their number; true; the hold on each lifetime; the reply; what the lenders kept; true]
+      -- [the last words and their number; what is still lent; true; the hold on each lifetime; the reply; what the lenders kept; true]
       move ! (3 ∷ []) $ split3 ! $ move ! (2 ∷ []) $ split ! $ keep ! (0 ∷ 4 ∷ 8 ∷ []) $ move ! (2 ∷ []) $ split3 ! $ move ! (2 ∷ []) $ split ! $
-      keep ! (4 ∷ 5 ∷ 0 ∷ []) $ done !
+      keep ! (4 ∷ 5 ∷ 0 ∷ []) $ move ! (1 ∷ []) $ fsplit ! $ keep ! (2 ∷ 0 ∷ 3 ∷ []) $ done !
 
-pub exported_trace_runs : (s stack : List ℕ) (process : Process) (registers : Registers) (limit : ℕ) (old : List ℕ) (σ : Memory)
+pub exported_trace_runs : (γ : Env) → Wired γ exported-trace.Symbol.code → (s stack : List ℕ) (process : Process) (registers : Registers) (limit : ℕ) (old : List ℕ) (σ : Memory)
     → Bytes s → Bytes stack → ProcessFits process → RegistersFit registers → limit < 2 ^ 64 → Words old → WithBuffer s stack old σ
-    → Runs exported-trace.Symbol.routine
+    → Runs (γ exported-trace.Symbol.name)
     (whole 0 s ∷ whole 1 stack ∷ process_value process ∷ registers_value registers ∷ vint w64 limit ∷ whole 2 old ∷ []) σ
     (λ value after.
     StandsFor traced-type.the_row (exported.trace s stack process registers limit old).answer value
     × BufferHas after (length old) (exported.trace s stack process registers limit old).words)
 unfolding handed_as
-exported_trace_runs s stack process registers limit old σ section-bytes stack-bytes process-fits registers-fit limit-fits old-words is-stored =
+exported_trace_runs γ wired s stack process registers limit old σ section-bytes stack-bytes process-fits registers-fit limit-fits old-words is-stored =
     let blocks : Assertion = Block 1 stack ∗ Block 0 s ∗ emp 𝓤 in
     ∥∥₁_elim
     (and_lent (Buffer (length old) old) (words 2 old) (words_kept 2 old) (lends_words 2 old (omega arith, omega arith))
@@ -219,18 +221,18 @@ exported_trace_runs s stack process registers limit old σ section-bytes stack-b
     (and_slice (Block 0 s ∗ emp 𝓤) 1 stack 1 stack-bytes
     (and_value (the_process process process-fits) (and_value (the_registers registers registers-fit) (and_value (word limit limit-fits) third))))
     ∥∥₁_prop λ stack-lent.
-    let (β, δ, second) = stack-lent in
+    let (β, ε, second) = stack-lent in
     ∥∥₁_elim (and_slice (emp 𝓤) 0 s 0 section-bytes second) ∥∥₁_prop λ lent.
-    let (α, γ, all) = lent in
+    let (α, δ, all) = lent in
     let κs : Lfts 3 = (α ∷ [], (β ∷ [], (μ ∷ [], tt))) in
     let qs : Shares 3 = (full_share, (full_share, (full_share, tt))) in
-    let a : Dens κs exported-trace.Kinds.ps = (referred 0 s γ, (referred 1 stack δ, (process, (registers, (limit, (referred 2 old ν, tt)))))) in
-    ∥∥₁_elim (run_ends exported_trace_returns κs tt qs a all) ∥∥₁_prop λ end.
+    let a : Dens κs exported-trace.Kinds.ps = (referred 0 s, (referred 1 stack, (process, (registers, (limit, (referred_to_write 2 old ν, tt)))))) in
+    ∥∥₁_elim (run_ends (exported_trace_returns γ wired) κs tt qs a (whole 0 s ∷ [], (whole 1 stack ∷ [], (process_value process ∷ [], (registers_value registers ∷ [], (vint w64 limit ∷ [], (whole 2 old ∷ [], tt)))))) all) ∥∥₁_prop λ end.
     let left : List ℕ = end.last.1.1.1.1.1.0 in
     let same = (exports_give.trace κs a end.reply left).0 end.allowed in
     ∥∥₁_map
     (buffer_has (length old) μ ν left end.after _
-    (gives_back κs qs a end.last end.reply end.value (slice_kept 0 s 0 α γ) (slice_kept 1 stack 1 β δ) (words_kept 2 old μ ν)) end.left)
+    (gives_back κs qs a end.last end.reply end.value (slice_kept 0 s 0 α δ) (slice_kept 1 stack 1 β ε) (words_kept 2 old μ ν)) end.left)
     λ loaded. (
       end.fuel,
       end.value,

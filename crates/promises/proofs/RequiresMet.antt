@@ -50,7 +50,7 @@ use Rattle.explain.proofs.looked.explain_look.Reads as explain_look-reads
 use Rattle.explain.proofs.nearby.nearest_at.Reads as nearest_at-reads
 use Rattle.trace.specs.declared.answer.Frame.{Frame}
 use Rattle.trace.proofs.answer.write_frame.Reads as write_frame-reads
-use Rattle.promises.specs.Inner.Lent.{Lies, lent}
+use Rattle.promises.specs.Inner.Lent.{Lies, lent, lent_to_write}
 
 -- ---- numbers
 
@@ -238,5 +238,5 @@ nearest_at_met κs here side address pc = record { sound = refl; layout_is = ref
 -- ---- trace: a buffer of three words, and any frame
 
 pub write_frame_met :
-    (κs : Lfts 1) (here : Lies) (a b c : ℕ) (frame : Frame) → write_frame-reads.Asked κs (lent here (a ∷ b ∷ c ∷ []), (0, (frame, tt)))
+    (κs : Lfts 1) (here : Lies) (a b c : ℕ) (frame : Frame) → write_frame-reads.Asked κs (lent_to_write here (a ∷ b ∷ c ∷ []), (0, (frame, tt)))
 write_frame_met κs here a b c frame = omega arith

@@ -7,8 +7,9 @@ use mathlib.Core.Logic.{∥∥₁_prop, ∥∥₁_elim, ∥∥₁_map}
 use mir.Val.{Val}
 use base.Logic.{ent, ex, emp, via, comm∗, assoc∗, assoc', mono_l, fst∗, snd∗, emp∗, id⊢}
 use prog.Memory.{Memory}
-use prog.Routine.{Routine, anyName}
-use ghost.Atoms.{meaning}
+use prog.Routine.{Routine, any_callee}
+use types.Logic.{sem}
+use contract.Closed.{real⁺_strict}
 use contract.Adequate.{sat_weaken, sat_ex∗, sat_⇛}
 use contract.Lifetimes.{Lfts, Shares, AllOutlive}
 use contract.Monad.{fact}
@@ -21,11 +22,11 @@ use denote.Triple.Entry.{Args, Vals, Res, alive, on_entry}
 use denote.Triple.Spec.{Meets, triple_of}
 use Rattle.promises.specs.ByClauses.{Stated, closed, Plainly, EndsBy, ReturnsBy}
 use Rattle.promises.specs.Returns.{Assertion, ◌∗◌, ◌has◌}
-use Rattle.promises.proofs.ReturnLaws.{𝓤, H, 𝓜, 𝓡, A, is_told}
+use Rattle.promises.proofs.ReturnLaws.{𝓤, H, 𝓜, 𝓖, 𝓡, is_told}
 
 module _ (T : Ended) (stated : Stated T) (routine : Routine) (says : Plainly T stated) where
   abbrev pub MetBy : Type 1
-  MetBy = Meets 𝓤 H A T.signature (𝓡.run routine) (closing 𝓤 H A T (closed T stated))
+  MetBy = Meets 𝓖 T.signature (𝓡.run routine) (closing 𝓖 T (closed T stated))
 
   -- nothing is asked
   pub record Unasked : Type 2 where
@@ -34,13 +35,13 @@ module _ (T : Ended) (stated : Stated T) (routine : Routine) (says : Plainly T s
 
   module _ (none : Unasked) (κs : Lfts T.signature.lifetimes) (bounds : AllOutlive T.signature.lifetimes T.signature.outlives κs) (qs : Shares T.signature.lifetimes) (a : Args T.signature κs) (vss : Vals T.signature κs) where
     abbrev Held : Assertion
-    Held = alive 𝓤 H A T.signature κs qs
+    Held = alive 𝓖 T.signature κs qs
 
     abbrev Own : Val → Res T.signature κs → Assertion
-    Own v z = meaning 𝓤 H A ((type_at T.signature.result κs).own_val z (v ∷ []))
+    Own v z = sem 𝓖 ((type_at T.signature.result κs).own_val z (v ∷ []))
 
     abbrev Last : Lasts T κs a → Assertion
-    Last w = meaning 𝓤 H A (lasts T κs a w)
+    Last w = sem 𝓖 (lasts T κs a w)
 
     abbrev Ensured : Res T.signature κs → Lasts T κs a → Assertion
     Ensured z w = (closed T stated κs a).ensures (none.ghost κs a) z (at_exit T κs a w)
@@ -52,7 +53,7 @@ module _ (T : Ended) (stated : Stated T) (routine : Routine) (says : Plainly T s
     Replied v z = (Held ∗ Own v z) ∗ Said z
 
     abbrev entered : Assertion
-    entered = on_entry 𝓤 H A T.signature κs qs a vss
+    entered = on_entry 𝓖 T.signature κs qs a vss
 
     unasked : ent 𝓤 entered (entered ∗ (closed T stated κs a).requires (none.ghost κs a))
     unasked =
@@ -66,8 +67,8 @@ module _ (T : Ended) (stated : Stated T) (routine : Routine) (says : Plainly T s
     met-ends-by : MetBy → (σ : Memory) (F : Assertion) → σ has entered ∗ F → ∥ EndsBy T stated routine says κs qs a vss σ F ∥₁
     met-ends-by met σ F s =
         ∥∥₁_elim
-        (adequate 𝓤 H 𝓜 (tables 𝓤 H 𝓜 𝓡 (λ _. routine)) anyName
-        (triple_of 𝓤 H A T.signature (closing 𝓤 H A T (closed T stated))) met
+        (adequate 𝓤 H 𝓜 (tables 𝓤 H 𝓜 𝓡 (λ _. routine)) real⁺_strict any_callee
+        (triple_of 𝓖 T.signature (closing 𝓖 T (closed T stated))) met
         ((κs, qs, bounds, a, vss), none.ghost κs a) σ F
         (sat_weaken 𝓤 H 𝓜 σ (mono_l 𝓤 F unasked) s))
         ∥∥₁_prop λ run.
@@ -77,7 +78,7 @@ module _ (T : Ended) (stated : Stated T) (routine : Routine) (says : Plainly T s
         let back : Assertion = Held ∗ Own v z in
         ∥∥₁_elim
         (is_told σ' (Replied v z) F (Is (type_at T.signature.result κs) z (v ∷ []))
-        (via 𝓤 back (fst∗ 𝓤 back (Said z)) (via 𝓤 (Own v z) (snd∗ 𝓤 Held (Own v z)) (shows 𝓤 H A (type_at T.signature.result κs) z (v ∷ [])))) s₂)
+        (via 𝓤 back (fst∗ 𝓤 back (Said z)) (via 𝓤 (Own v z) (snd∗ 𝓤 Held (Own v z)) (shows 𝓖 (type_at T.signature.result κs) z (v ∷ [])))) s₂)
         ∥∥₁_prop λ is.
         ∥∥₁_elim
         (sat_ex∗ 𝓤 H 𝓜 σ' (λ w. Last w ∗ Ensured z w) (back ∗ F)

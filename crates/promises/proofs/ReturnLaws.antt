@@ -9,20 +9,21 @@ use mir.Val.{Val}
 use base.Logic.{ent, ex, emp, via, comm∗, assoc∗, assoc', mono_l, fst∗, snd∗, emp∗}
 use prog.Memory.{Memory}
 use prog.Model.{Model}
-use prog.Routine.{Routine, anyName}
+use prog.Routine.{Routine, Env, any_callee}
 use prog.Wp.{Heap}
-use ghost.Atoms.{Atoms, meaning}
-use types.Logic.{Logic}
+use ghost.Atoms.{Atoms}
+use types.Logic.{Logic, sem}
+use contract.Closed.{real⁺_strict}
 use contract.Adequate.{sat_weaken, sat_fact, sat_ex∗, sat_⇛}
 use contract.Lifetimes.{Lfts, Shares, AllOutlive}
 use contract.Monad.{fact}
-use contract.Running.{Running, tables}
+use contract.Running.{Running, tables, within}
 use denote.Laws.{Is, shows}
 use denote.Triple.Adequate.{adequate}
 use denote.Triple.Clauses.{Clauses, Lasts, lasts, closing}
-use denote.Triple.Entry.{alive}
+use denote.Triple.Entry.{Vals, alive}
 use denote.Triple.Spec.{Meets, triple_of}
-use borrow.Fn.Kinds.{ParamKind, ResultKind, Out, Dens, res_t, os_r, sig_of, ended_of, valssP}
+use borrow.Fn.Kinds.{ParamKind, ResultKind, Out, Dens, res_t, os_r, sig_of, ended_of}
 use borrow.Fn.World.{w₀}
 use Rattle.promises.specs.Determined.{Allows}
 use Rattle.promises.specs.Returns.{Assertion, ◌∗◌, ◌has◌, Lent, Ends, Returns}
@@ -44,6 +45,10 @@ abbrev pub 𝓖 : Logic 𝓤
 abbrev pub 𝓡 : Running 𝓤 H 𝓜
 𝓡 = w₀.𝓡
 
+-- the same, where a name means what it means in γ
+abbrev pub reading : Env → Running 𝓤 H 𝓜
+reading γ = within 𝓤 H 𝓜 𝓡 γ
+
 abbrev pub A : Atoms 𝓤
 A = 𝓖.A
 
@@ -58,17 +63,17 @@ module _ {n : ℕ} (ps : List (ParamKind n)) (r : ResultKind n) (Learnt : Out n 
   clauses κs a = record { ghost = Unit {0}; requires = λ _. emp 𝓤; ensures = λ _ z e. fact 𝓤 (Learnt κs a z e) }
 
   abbrev pub Met : Type 1
-  Met = Meets 𝓤 H A (sig_of n ps r) (𝓡.run routine) (closing 𝓤 H A (ended_of n ps r) clauses)
+  Met = Meets 𝓖 (sig_of n ps r) (𝓡.run routine) (closing 𝓖 (ended_of n ps r) clauses)
 
-  module _ (κs : Lfts n) (bounds : AllOutlive n (os_r r) κs) (qs : Shares n) (a : Dens κs ps) where
+  module _ (κs : Lfts n) (bounds : AllOutlive n (os_r r) κs) (qs : Shares n) (a : Dens κs ps) (vss : Vals (sig_of n ps r) κs) where
     abbrev Held : Assertion
-    Held = alive 𝓤 H A (sig_of n ps r) κs qs
+    Held = alive 𝓖 (sig_of n ps r) κs qs
 
     abbrev Own : Val → (res_t r κs).Denot → Assertion
-    Own v z = meaning 𝓤 H A ((res_t r κs).own_val z (v ∷ []))
+    Own v z = sem 𝓖 ((res_t r κs).own_val z (v ∷ []))
 
     abbrev Last : Lasts (ended_of n ps r) κs a → Assertion
-    Last w = meaning 𝓤 H A (lasts (ended_of n ps r) κs a w)
+    Last w = sem 𝓖 (lasts (ended_of n ps r) κs a w)
 
     abbrev Allowed : (res_t r κs).Denot → Lasts (ended_of n ps r) κs a → Assertion
     Allowed z w = fact 𝓤 (Allows ps r Learnt κs a z w)
@@ -80,13 +85,13 @@ module _ {n : ℕ} (ps : List (ParamKind n)) (r : ResultKind n) (Learnt : Out n 
     abbrev Replied : Val → (res_t r κs).Denot → Assertion
     Replied v z = (Held ∗ Own v z) ∗ Said z
 
-    met-ends : Met → (σ : Memory) (F : Assertion) → σ has Lent ps r κs qs a ∗ F → ∥ Ends ps r Learnt routine κs qs a σ F ∥₁
+    met-ends : Met → (σ : Memory) (F : Assertion) → σ has Lent ps r κs qs a vss ∗ F → ∥ Ends ps r Learnt routine κs qs a vss σ F ∥₁
     met-ends met σ F s =
-        let lent : Assertion = Lent ps r κs qs a in
+        let lent : Assertion = Lent ps r κs qs a vss in
         ∥∥₁_elim
-        (adequate 𝓤 H 𝓜 (tables 𝓤 H 𝓜 𝓡 (λ _. routine)) anyName
-        (triple_of 𝓤 H A (sig_of n ps r) (closing 𝓤 H A (ended_of n ps r) clauses)) met
-        ((κs, qs, bounds, a, valssP κs ps a), tt) σ F
+        (adequate 𝓤 H 𝓜 (tables 𝓤 H 𝓜 𝓡 (λ _. routine)) real⁺_strict any_callee
+        (triple_of 𝓖 (sig_of n ps r) (closing 𝓖 (ended_of n ps r) clauses)) met
+        ((κs, qs, bounds, a, vss), tt) σ F
         (sat_weaken 𝓤 H 𝓜 σ (mono_l 𝓤 F (via 𝓤 (emp 𝓤 ∗ lent) (emp∗ 𝓤 lent) (comm∗ 𝓤 (emp 𝓤) lent))) s))
         ∥∥₁_prop λ run.
         let (fuel, v, σ', ended, s₁) = run in
@@ -95,7 +100,7 @@ module _ {n : ℕ} (ps : List (ParamKind n)) (r : ResultKind n) (Learnt : Out n 
         let back : Assertion = Held ∗ Own v z in
         ∥∥₁_elim
         (is_told σ' (Replied v z) F (Is (res_t r κs) z (v ∷ []))
-        (via 𝓤 back (fst∗ 𝓤 back (Said z)) (via 𝓤 (Own v z) (snd∗ 𝓤 Held (Own v z)) (shows 𝓤 H A (res_t r κs) z (v ∷ [])))) s₂)
+        (via 𝓤 back (fst∗ 𝓤 back (Said z)) (via 𝓤 (Own v z) (snd∗ 𝓤 Held (Own v z)) (shows 𝓖 (res_t r κs) z (v ∷ [])))) s₂)
         ∥∥₁_prop λ is.
         ∥∥₁_elim
         (sat_ex∗ 𝓤 H 𝓜 σ' (λ w. Last w ∗ Allowed z w) (back ∗ F)
@@ -119,4 +124,4 @@ module _ {n : ℕ} (ps : List (ParamKind n)) (r : ResultKind n) (Learnt : Out n 
 
 pub met_returns : {n : ℕ} {ps : List (ParamKind n)} {r : ResultKind n} {Learnt : Out n ps r} {routine : Routine} → Met ps r Learnt routine → Returns ps r Learnt routine
 met_returns {ps = ps} {r = r} {Learnt = Learnt} {routine = routine} met =
-    record { run = λ κs bounds qs a σ F s. met-ends ps r Learnt routine κs bounds qs a met σ F s }
+    record { run = λ κs bounds qs a vss σ F s. met-ends ps r Learnt routine κs bounds qs a vss met σ F s }

@@ -5,7 +5,7 @@ use mathlib.Core.Path.{◌≡◌, refl, subst}
 use mathlib.Core.List.{List, [], ◌∷◌}
 use mathlib.Core.Logic.{∥∥₁_prop, ∥∥₁_elim, ∥∥₁_map}
 use Prim.Native.Nat.{ℕ, ◌+◌}
-use seplogic.Ra.TreeShare.{full_share}
+use base.Fraction.{full_share}
 use lib.ListN.{length}
 use mir.Syntax.{w8, named}
 use base.Fml.{GName}
@@ -15,30 +15,31 @@ use prog.Routine.{Routine}
 use prog.Wp.{run}
 use ghost.Atoms.{meaning}
 use types.Logic.{Logic}
-use types.Kit.{‵, raw, ◌⊛◌, some, later, ◌$◌, ◌∵◌, !, qed, move, use0, use1, split, split3, join, pick, fjoin, feq_i, frame, await, updating, now as at_once, show, done}
+use types.Kit.{‵, raw, ◌⊛◌, some, later, ◌$◌, ◌∵◌, !, qed, move, use0, use1, use2, split, split3, join, pick, fjoin, feq_i, frame, await, updating, now as at_once, show, done}
 use types.Share.{parts, arr_parts}
 use types.Tokens.{lft_new}
 use contract.Adequate.{sat_weaken, sat_ex∗, sat_⇛}
 use contract.Lifetimes.{Lfts, Shares, AllOutlive}
 use denote.Builtin.{u8}
+use denote.Copied.{uint_Copied}
 use denote.Lend.{lends_shr_slice}
 use denote.Memory.{mem, shares}
 use denote.Plain.{uint_in}
-use denote.RattleType.{owns}
-use denote.Ref.{Bor}
+use denote.RattleType.{owns, flat}
+use denote.Ref.{Bor, MutBor}
 use denote.Signature.{types_at}
 use denote.Slice.{ShrSlice, Room}
 use denote.Steps.{nothing}
 use denote.Triple.Clauses.{Lasts}
-use denote.Triple.Entry.{alive}
-use borrow.Fn.Kinds.{ParamKind, ResultKind, Out, Dens, res_t, os_r, sig_of, slots, ended_of, valssP, encsP}
+use denote.Triple.Entry.{Vals, alive}
+use borrow.Fn.Kinds.{ParamKind, ResultKind, Out, Dens, res_t, os_r, sig_of, slots, ended_of}
 use Rattle.promises.specs.Determined.{Allows}
 use Rattle.promises.specs.Returns.{Assertion, ◌∗◌, ◌has◌, StandsFor, Ends, Returns}
 use Rattle.promises.specs.Runs.{Runs, whole}
 use Rattle.promises.proofs.ReturnLaws.{𝓤, H, 𝓜, 𝓖, A}
 
 -- what a script of the logic's calculus takes for granted: here it is had
-pub W : Logic 𝓤
+abbrev pub W : Logic 𝓤
 W = 𝓖
 
 -- ---- what is lent is put together from the last parameter to the first
@@ -94,9 +95,16 @@ module _ {σ : Memory} {held owned kept F : Assertion} where
         },
       )
 
--- all that stands in block b, under the name γ
-abbrev pub referred : ℕ → List ℕ → GName → Bor (List ℕ)
-referred b xs γ = record { ref_ptr = (b, 0); now = xs }
+-- all that stands in block b, to be read; and to be written, under the name γ
+abbrev pub referred : ℕ → List ℕ → Bor (List ℕ)
+referred b xs = record { ref_ptr = (b, 0); now = xs }
+
+abbrev pub referred_to_write : ℕ → List ℕ → GName → MutBor (List ℕ)
+referred_to_write b xs γ = record { ref_ptr = (b, 0); ghost_name = γ; now = xs }
+
+-- what is read alone has no name
+abbrev no_name : GName
+no_name = 0
 
 -- ---- bytes that lie side by side are lent to be read
 
@@ -105,11 +113,11 @@ Block b xs = run 𝓤 H full_share w8 b 0 xs
 
 side_by_side : (xs : List ℕ) (b o : ℕ) → ent 𝓤 (run 𝓤 H full_share w8 b o xs) (meaning 𝓤 H A (parts (mem u8) (shares u8) full_share xs b o))
 side_by_side [] b o = id⊢ 𝓤 (emp 𝓤)
-side_by_side (x ∷ xs) b o = mono∗ 𝓤 (uint_in 𝓤 H A W full_share w8 x b o) (side_by_side xs b (o + 1))
+side_by_side (x ∷ xs) b o = mono∗ 𝓤 (uint_in W full_share w8 x b o) (side_by_side xs b (o + 1))
 
 module _ (j : ℕ) (xs : List ℕ) (b : ℕ) where
   abbrev pub slice : ℕ → GName → Assertion
-  slice α γ = meaning 𝓤 H A ((ShrSlice (named j) (α ∷ []) u8).own_val (referred b xs γ) (whole b xs ∷ []))
+  slice α γ = meaning 𝓤 H A ((ShrSlice (named j) (α ∷ []) u8).own_val (referred b xs) (whole b xs ∷ []))
 
   abbrev pub slice_kept : ℕ → GName → Assertion
   slice_kept α γ = A.lent (α ∷ []) ((arr_parts (shares u8) (length xs)).part full_share xs b 0)
@@ -118,29 +126,30 @@ module _ (j : ℕ) (xs : List ℕ) (b : ℕ) where
   lends_bytes room =
       qed W (raw (Block b xs) ∷ []) ∵ updating ! $ use1 W (‵ (parts (mem u8) (shares u8) full_share xs b 0)) (side_by_side xs b 0) $
       feq_i ! ℕ (length xs) (length xs) refl $ fjoin ! $ lft_new ! tt (λ α. move ! (1 ∷ []) $
-      use1 W (later (some (λ (γ : GName). raw (slice α γ) ⊛ raw (slice_kept α γ))))
-      (lends_shr_slice 𝓤 H A W u8 (named j) (α ∷ []) full_share xs b 0 room) $
-      await ! tt $ pick ! (λ γ. split ! $ at_once ! $
-      show ! (λ β. ex 𝓤 (λ δ. hold β ∗ slice β δ ∗ slice_kept β δ)) α $ show ! (λ δ. hold α ∗ slice α δ ∗ slice_kept α δ) γ $
-      move ! (2 ∷ 0 ∷ 1 ∷ []) $ done !))
+      use2 W (later ((raw (slice α no_name) ⊛ raw (slice_kept α no_name)) ⊛ raw (hold α)))
+      (lends_shr_slice W u8 (named j) (α ∷ []) full_share xs b 0 room (α ∷ []) ((uint_Copied W w8).shares full_share (α ∷ []))
+      ((α ∷ [], full_share) ∷ []) (λ x m. m) (λ x m. m)) $
+      await ! tt $ split ! $ split ! $ at_once ! $
+      show ! (λ β. ex 𝓤 (λ δ. hold β ∗ slice β δ ∗ slice_kept β δ)) α $ show ! (λ δ. hold α ∗ slice α δ ∗ slice_kept α δ) no_name $
+      move ! (2 ∷ 0 ∷ 1 ∷ []) $ done !)
 
 -- ---- the run of a routine that returns, from a memory with all that it is lent
 
 module _ {n : ℕ} {ps : List (ParamKind n)} {r : ResultKind n} {Learnt : Out n ps r} {routine : Routine} (returns : Returns ps r Learnt routine) (κs : Lfts n)
-    (bounds : AllOutlive n (os_r r) κs) (qs : Shares n) (a : Dens κs ps) where
+    (bounds : AllOutlive n (os_r r) κs) (qs : Shares n) (a : Dens κs ps) (vss : Vals (sig_of n ps r) κs) where
   abbrev Held : Assertion
-  Held = alive 𝓤 H A (sig_of n ps r) κs qs
+  Held = alive 𝓖 (sig_of n ps r) κs qs
 
   abbrev Owned : Assertion
-  Owned = meaning 𝓤 H A (owns (types_at (slots ps) κs) a (valssP κs ps a))
+  Owned = meaning 𝓤 H A (owns (types_at (slots ps) κs) a vss)
 
-  pub run_ends : {σ : Memory} {kept F : Assertion} → Ready σ Held Owned kept F → ∥ Ends ps r Learnt routine κs qs a σ (kept ∗ F) ∥₁
-  run_ends {σ} {kept} {F} all = returns.run κs bounds qs a σ (kept ∗ F) (sat_weaken 𝓤 H 𝓜 σ (assoc' 𝓤 Held Owned (kept ∗ F)) all.there)
+  pub run_ends : {σ : Memory} {kept F : Assertion} → Ready σ Held Owned kept F → ∥ Ends ps r Learnt routine κs qs a vss σ (kept ∗ F) ∥₁
+  run_ends {σ} {kept} {F} all = returns.run κs bounds qs a vss σ (kept ∗ F) (sat_weaken 𝓤 H 𝓜 σ (assoc' 𝓤 Held Owned (kept ∗ F)) all.there)
 
   -- where the contract allows one reply alone
   pub runs : {σ : Memory} {kept F : Assertion} → Ready σ Held Owned kept F
       → {z : (res_t r κs).Denot} → ((y : (res_t r κs).Denot) (w : Lasts (ended_of n ps r) κs a) → Allows ps r Learnt κs a y w → y ≡ z)
-      → Runs routine (encsP κs ps a) σ (λ value after. StandsFor (res_t r κs) z value)
+      → Runs routine (flat (types_at (slots ps) κs) vss) σ (λ value after. StandsFor (res_t r κs) z value)
   runs all only-z =
       ∥∥₁_map (run_ends all) λ end. (
         end.fuel,

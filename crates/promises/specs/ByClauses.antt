@@ -7,7 +7,7 @@ use mir.Val.{Val}
 use base.Logic.{SProp}
 use prog.Machine.{done}
 use prog.Memory.{Memory}
-use prog.Routine.{Routine}
+use prog.Routine.{Routine, step}
 use types.Logic.{Logic, sem}
 use contract.Lifetimes.{Lfts, Shares, AllOutlive}
 use contract.Monad.{Fun, fact}
@@ -24,7 +24,7 @@ Stated T = (𝓤 : Ura w₀.M) (𝓛 : Logic 𝓤) → (Memory → SProp 𝓤) �
 
 module _ (T : Ended) (stated : Stated T) where
   abbrev pub closed : Clauses w₀.𝓤 T
-  closed = stated w₀.𝓤 w₀.𝓛 w₀.𝓜.mem w₀.𝓡.run
+  closed = stated w₀.𝓤 w₀.𝓛 w₀.𝓜.mem w₀.𝓡.returns
 
   -- what a caller may rely on after a call: a plain claim, which is all that the contract's `ensures` says
   pub record Plainly : Type 2 where
@@ -46,7 +46,7 @@ module _ (T : Ended) (stated : Stated T) where
       pub fuel : ℕ
       pub value : Val
       pub after : Memory
-      pub ends : routine.step fuel (flat (types_at T.signature.params κs) vss) σ ≡ done (value, after)
+      pub ends : step routine fuel (flat (types_at T.signature.params κs) vss) σ ≡ done (value, after)
       pub reply : Res T.signature κs
       pub last : Lasts T κs a
       pub stands_for : StandsFor (type_at T.signature.result κs) reply value

@@ -9,7 +9,7 @@ use prog.AdequacyRun.{start_mem}
 use prog.Machine.{done}
 use prog.Memory.{Memory, load_m, store_m, alloc_m}
 use prog.Model.{AllFit}
-use prog.Routine.{Routine}
+use prog.Routine.{Routine, step}
 use denote.Slice.{slice_val}
 use Rattle.caller.specs.declared.registers.Registers.{Registers}
 use Rattle.caller.specs.declared.registers.Process.{Process}
@@ -25,7 +25,7 @@ use Rattle.promises.specs.Returns.{StandsFor}
 -- run on these values from σ, the routine is done, with a value and a memory of which this holds
 abbrev pub Runs : Routine → List Val → Memory → (Val → Memory → Type 0) → Type 0
 Runs routine values σ Holds =
-    ∥ ((fuel : ℕ) × (value : Val) × (after : Memory) × (routine.step fuel values σ ≡ done (value, after)) × Holds value after) ∥₁
+    ∥ ((fuel : ℕ) × (value : Val) × (after : Memory) × (step routine fuel values σ ≡ done (value, after)) × Holds value after) ∥₁
 
 -- ---- bytes to read. The memory `start_mem s stack` has two blocks: block 0 holds the bytes of s, and block 1 those of stack
 
