@@ -10,7 +10,7 @@ use native.Mathlib.Nat.{eq-or-lt_of_le}
 use native.Mathlib.Omega.{arith}
 use lib.IntN.{ℤ}
 use lib.ListN.{get_or}
-use lib.Signed.{◌≤ℤ◌, ≤ℤ_refl}
+use lib.Signed.{≤ℤ_refl}
 use Rattle.numbers.specs.Start.{distance}
 use Rattle.numbers.specs.declared.offset.Offset.{Offset}
 use Rattle.section.specs.Meaning.{shape_of}
@@ -45,7 +45,6 @@ use Rattle.explain.specs.declared.why.Nearest.{Nearest}
 use Rattle.explain.specs.declared.why.Nearest.TheVariants.{Covered, Nothing}
 use Rattle.explain.specs.declared.why.Needed.{Needed}
 use Rattle.explain.specs.declared.why.Needed.TheVariants.{Ra, Fp}
-use Rattle.explain.specs.declared.why.NotFound.{NotFound}
 use Rattle.explain.specs.declared.why.NotFound.TheVariants as missing
 use Rattle.explain.specs.declared.why.RowReason.{RowReason}
 use Rattle.explain.specs.declared.why.RowReason.TheVariants as row

@@ -1,31 +1,24 @@
 -- Entry i of a section with a sound header: it lies inside, and so does where the row area begins.
 -- Assumes nothing.
-use mathlib.Core.Path.{◌≡◌, refl, ap}
-use mathlib.Core.Bool.{Bool, true, false}
+use mathlib.Core.Path.{◌≡◌, ap}
 use mathlib.Core.List.{List}
 use Prim.Native.Nat.{ℕ, ◌+◌, ◌*◌, ◌≤◌, ◌<◌}
 use native.Mathlib.Omega.{arith}
-use lib.Dec.{ltb}
 use lib.IntN.{ℤ}
 use lib.ListN.{length}
-use borrow.Author.Tests.{ltb-true}
 use Rattle.numbers.specs.declared.offset.Offset.{Offset}
 use Rattle.section.specs.Entry.{type_of, start_of}
 use Rattle.section.specs.Header.{layout_from, layout_of}
 use Rattle.section.specs.Meaning.{entry_in, block_of}
 use Rattle.section.specs.declared.entry.Entry.{Entry}
 use Rattle.section.specs.declared.header.Layout.{Layout}
-use Rattle.accept.specs.Rules.{HeaderObeys, function_count}
+use Rattle.accept.specs.Rules.{HeaderObeys}
 use Rattle.accept.specs.Computed.Checks.{header_fault}
-use Rattle.accept.specs.declared.verdict.Fault.{Fault}
-use Rattle.accept.specs.declared.verdict.Fault.TheVariants.{Sound, Breaks}
-use Rattle.accept.proofs.AcceptedLaws.{few_functions, area_inside, entry_inside}
+use Rattle.accept.specs.declared.verdict.Fault.TheVariants.{Sound}
+use Rattle.accept.proofs.AcceptedLaws.{area_inside}
 use Rattle.accept.proofs.Exactly.{header_exactly_when}
 use Rattle.listing.specs.Functions.{kind_of, rows_place, facts_of}
 use Rattle.listing.specs.Inner.Requires.{EntryThere}
-use Rattle.listing.specs.declared.function.Described.{Described}
-use Rattle.listing.specs.declared.function.Described.TheVariants.{Unknown, Function}
-use Rattle.listing.specs.declared.function.Facts.{Facts}
 use Rattle.listing.specs.declared.function.Kind.{Kind}
 
 pub header_obeys : (s : List ℕ) → header_fault s ≡ Sound → HeaderObeys s

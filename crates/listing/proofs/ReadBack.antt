@@ -15,7 +15,6 @@ use Rattle.listing.specs.Functions.{kind_of}
 use Rattle.listing.specs.Listing.{function_line_of, lines_of_function, lines_of, function_lines, rows_ahead, rows_below}
 use Rattle.listing.specs.declared.function.Kind.{Kind}
 use Rattle.listing.specs.declared.function.Kind.TheVariants.{Plain, Repeated}
-use Rattle.listing.specs.declared.lines.FunctionLine.{FunctionLine}
 use Rattle.listing.specs.declared.lines.Line.{Line}
 use Rattle.listing.specs.declared.lines.Line.TheVariants.{OfFunction, OfRow}
 

@@ -1,25 +1,21 @@
 -- The rows that a reader has left where it begins are those of the function, as the section's meaning has them; and its place never
 -- leaves the section.
 -- Assumes nothing.
-use mathlib.Core.Path.{◌≡◌, refl, sym, ◌∙◌, ap}
+use mathlib.Core.Path.{◌≡◌, refl, sym}
 use mathlib.Core.Bool.{Bool, true, false}
-use mathlib.Core.List.{List, [], ◌∷◌}
-use Prim.Native.Nat.{ℕ, zero, suc, ◌+◌, ◌-◌, ◌^◌, ◌≤◌, ◌<◌}
+use mathlib.Core.List.{List}
+use Prim.Native.Nat.{ℕ, zero, suc, ◌+◌, ◌≤◌, ◌<◌}
 use native.Mathlib.Omega.{arith}
 use lib.ListN.{length, drop, length-drop}
-use borrow.Author.Tests.{le-leb, lt-ltb}
+use borrow.Author.Tests.{le-leb}
 use Rattle.section.specs.Entry.{type_of}
 use Rattle.section.specs.Header.{layout_of}
-use Rattle.section.specs.Meaning.{listed, area_of, shape_of, entry_in, row_in, function_in, row_place_at}
+use Rattle.section.specs.Meaning.{listed, area_of, shape_of, entry_in, row_in, function_in}
 use Rattle.section.specs.Row.{row_length, row_place, row_of}
-use Rattle.section.specs.declared.row.Row.{Row}
 use Rattle.section.specs.declared.shape.Shape.{Shape}
 use Rattle.section.specs.Inner.Reading.{Readable}
 use Rattle.accept.specs.Rules.{function_count, row_count, Obeys}
-use Rattle.accept.specs.Computed.Checks.{verdict}
-use Rattle.accept.specs.declared.verdict.Verdict.TheVariants.{Accepted}
 use Rattle.accept.proofs.AcceptedLaws.{area_inside, row_readable}
-use Rattle.accept.proofs.Exactly.{accepted_exactly_when}
 use Rattle.listing.specs.Functions.{rows_place}
 use Rattle.listing.specs.Computed.Turns.{names_offsets, has_fixed, can_read, has_row, passed, ended, row_turn, rows_from, rows_left}
 use Rattle.listing.specs.declared.rows.RowPlace.{RowPlace}

@@ -2,18 +2,14 @@
 -- Assumes nothing.
 use mathlib.Core.Path.{◌≡◌, refl}
 use mathlib.Core.Bool.{Bool, true, false}
-use mathlib.Core.List.{List, [], ◌∷◌}
-use Prim.Native.Nat.{ℕ, zero, suc, ◌+◌, ◌-◌}
+use mathlib.Core.List.{List}
+use Prim.Native.Nat.{ℕ, zero, suc, ◌-◌}
 use native.Mathlib.Omega.{arith}
 use lib.ListN.{drop}
 use borrow.Author.Tests.{le-leb}
-use Rattle.section.specs.Row.{row_length, row_of}
-use Rattle.section.specs.Shape.{shape}
-use Rattle.section.specs.declared.row.Row.{Row}
 use Rattle.section.specs.declared.shape.Abi.{Abi}
 use Rattle.listing.specs.Listing.{next_row}
 use Rattle.listing.specs.Computed.Turns.{can_read, has_row, passed, ended, row_turn, rows_from, rows_left}
-use Rattle.listing.specs.declared.rows.NextRow.TheVariants.{One, NoMore}
 use Rattle.listing.specs.declared.rows.RowPlace.{RowPlace}
 use Rattle.listing.specs.declared.rows.RowTurn.{RowTurn}
 

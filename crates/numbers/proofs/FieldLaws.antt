@@ -4,11 +4,11 @@
 use mathlib.Core.Path.{◌≡◌, refl, sym, ◌∙◌, ap}
 use mathlib.Core.List.{List, [], ◌∷◌, reverse, reverse-append}
 use Prim.Native.Nat.{ℕ, zero, suc, ◌+◌, ◌-◌, ◌^◌, ◌≤◌, ◌<◌}
-use native.Mathlib.Nat.{add-zero, sub-zero, zero-sub, suc-sub-suc, pow-succ'}
+use native.Mathlib.Nat.{add-zero, pow-succ'}
 use native.Mathlib.Omega.{arith}
 use lib.Dec.{lit<}
 use lib.ListN.{length, take, drop, get_or, length-drop}
-use lib.Seq.{take-suc, drop-cons, get_or-drop, take-nil, take-take, drop-drop}
+use lib.Seq.{take-suc, drop-cons, get_or-drop}
 use borrow.Author.Tests.{le-leb, lt-leb}
 use Rattle.numbers.specs.Field.{digits, number_in, field_of, byte_of}
 use Rattle.numbers.specs.Computed.Number.{number_of}

@@ -1,5 +1,5 @@
 -- Starts (SPECIFICATION 2.6), and the distance d that they are compared with (SPECIFICATION 4.1), both exact whole numbers.
-use Rattle.std.specs.Prelude.{ℕ, ◌+◌, ℤ, pos, ◌+ℤ◌, ◌-ℤ◌}
+use Rattle.std.specs.Prelude.{ℕ, ℤ, pos, ◌+ℤ◌, ◌-ℤ◌}
 use Rattle.numbers.specs.Signed.{signed_of}
 
 -- The effective start is "the start field, plus the field's own position in the section when flag 0x4 is set. It is a signed

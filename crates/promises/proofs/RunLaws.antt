@@ -15,7 +15,7 @@ use prog.Routine.{Routine}
 use prog.Wp.{run}
 use ghost.Atoms.{meaning}
 use types.Logic.{Logic}
-use types.Kit.{‵, raw, ◌⊛◌, some, later, ◌$◌, ◌∵◌, !, qed, move, use0, use1, use2, split, split3, join, pick, fjoin, feq_i, frame, await, updating, now as at_once, show, done}
+use types.Kit.{‵, raw, ◌⊛◌, later, ◌$◌, ◌∵◌, !, qed, move, use0, use1, use2, split, split3, join, fjoin, feq_i, frame, await, updating, now as at_once, show, done}
 use types.Share.{parts, arr_parts}
 use types.Tokens.{lft_new}
 use contract.Adequate.{sat_weaken, sat_ex∗, sat_⇛}

@@ -1,6 +1,6 @@
 -- Request 07, why an answer was given. What is promised of an explanation, as a predicate of any call that is handed what a lookup or a step
 -- is handed; and what the contracts of our functions allow. Every sentence is of any bytes, accepted or not.
-use Rattle.std.specs.Prelude.{◌≡◌, List, ℕ, ◌^◌, ◌<◌, ℤ, pos, ◌+ℤ◌}
+use Rattle.std.specs.Prelude.{◌≡◌, List, ℕ, ◌^◌, ◌<◌, pos, ◌+ℤ◌}
 use borrow.Fn.Kinds.{Dens}
 use contract.Lifetimes.{Lfts}
 use Rattle.numbers.specs.declared.offset.Offset.{Offset}

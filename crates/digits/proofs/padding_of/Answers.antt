@@ -2,7 +2,6 @@
 -- Assumes nothing.
 use borrow.Author.Rules.{rules}
 use mathlib.Core.Path.{sym}
-use Prim.Native.Nat.{◌-◌}
 use Rattle.digits.proofs.DigitLaws.{padding_begins, padding_stops, padding_goes_on, padding_ends}
 use Rattle.digits.proofs.padding_of.Goals as goal
 

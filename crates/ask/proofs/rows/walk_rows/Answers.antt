@@ -2,7 +2,6 @@
 -- Assumes nothing.
 use native.Mathlib.Omega.{arith}
 use mathlib.Core.Path.{◌≡◌, refl, sym, ◌∙◌, ap}
-use Prim.Native.Nat.{◌-◌}
 use lib.ListN.{take}
 use Rattle.section.specs.Row.{row_start}
 use Rattle.accept.specs.Computed.Checks.{first_bad, row_tests}

@@ -1,7 +1,6 @@
 -- `coverers::all_covering` tries function after function.
 -- Assumes nothing.
 use native.Mathlib.Omega.{arith}
-use Prim.Native.Nat.{◌-◌}
 use Rattle.explain.specs.Computed.Coverers.{no_coverers, coverers_in}
 use Rattle.explain.proofs.CoversLaws.{count_kept}
 use Rattle.explain.proofs.EachLaws.{each_begins, each_next, each_ends}

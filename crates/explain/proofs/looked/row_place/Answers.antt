@@ -3,7 +3,6 @@
 use native.Mathlib.Numerals.{add-one}
 use native.Mathlib.Omega.{arith}
 use mathlib.Core.Path.{◌≡◌, refl}
-use Prim.Native.Nat.{◌-◌}
 use Rattle.section.specs.Row.{row_place}
 use Rattle.section.specs.Inner.Reading.{Readable}
 use Rattle.explain.proofs.PlaceLaws.{place_next}

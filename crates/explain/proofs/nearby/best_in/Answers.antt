@@ -2,7 +2,6 @@
 -- Assumes nothing.
 use native.Mathlib.Omega.{arith}
 use mathlib.Core.Path.{refl, ◌∙◌, ap}
-use Prim.Native.Nat.{◌-◌}
 use Rattle.explain.specs.Computed.Nearest.{nearest_in}
 use Rattle.explain.specs.Inner.Keys.{nearest_of}
 use Rattle.explain.proofs.EachLaws.{each_begins, each_next, each_ends}

@@ -4,7 +4,6 @@ use borrow.Author.Tests.{leb-true, leb-false}
 use native.Mathlib.Numerals.{add-one}
 use native.Mathlib.Omega.{arith}
 use mathlib.Core.Path.{◌≡◌, sym, ◌∙◌, ap}
-use Prim.Native.Nat.{◌-◌}
 use Rattle.section.specs.Row.{row_length}
 use Rattle.section.specs.Inner.Reading.{Readable}
 use Rattle.lookup.specs.Inner.Search.{starts_by, told_by}

@@ -2,7 +2,7 @@
 -- Assumes nothing.
 use native.Mathlib.Numerals.{add-one}
 use native.Mathlib.Omega.{arith}
-use Prim.Native.Nat.{◌+◌, ◌-◌, ◌/◌}
+use Prim.Native.Nat.{◌+◌, ◌/◌}
 use Rattle.numbers.proofs.HeldLaws.{from_start, before_start}
 use Rattle.lookup.proofs.HalvingTurns.{halving_begins, middle_within, goes_up, goes_down, halving_ends}
 use Rattle.lookup.proofs.search.halve.Goals as goal

@@ -3,7 +3,6 @@
 use native.Mathlib.Numerals.{add-one}
 use native.Mathlib.Omega.{arith}
 use mathlib.Core.Path.{refl, sym, ◌∙◌}
-use Prim.Native.Nat.{◌-◌}
 use Rattle.lookup.proofs.ScanLaws.{first_here, first_on, first_end}
 use Rattle.lookup.proofs.search.next_covering.Goals as goal
 

@@ -3,7 +3,6 @@
 use native.Mathlib.Omega.{arith}
 use mathlib.Core.Path.{◌≡◌, sym, ◌∙◌, ap}
 use Prim.Native.Nat.{◌+◌, ◌*◌, ◌≤◌, ◌<◌}
-use mathlib.Core.List.{[], ◌∷◌}
 use lib.ListN.{length}
 use Rattle.caller.proofs.NumberLaws.{caller_unmarked, caller_keeps_lr}
 use Rattle.trace.specs.Frames.{frame_of, words_of, traced_as}
