@@ -5,14 +5,16 @@
 #![tactic(auto)]
 
 ghost use Rattle.std.specs.Prelude.{◌<◌};
-ghost use Rattle.io.specs.Counts.{IsPrefixLen};
+ghost use Rattle.std.specs.Io.{ReadsAtMost};
 
-use libc::STDOUT_FILENO;
 use numbers::field::{Number, Order, number_at, width_of};
 use numbers::offset::{Shift, offset_at, shift_of};
+use std::io::{BufWriter, Read, Write};
+use std::rt::Files;
+use std::{fs, io};
 
-fn say(text: &[u8]) {
-    io::write_all(STDOUT_FILENO, text);
+fn say(out: &mut impl Write, text: &[u8]) -> io::Result<()> {
+    out.write_all(text)
 }
 
 // The digit that a byte of text stands for.
@@ -33,98 +35,111 @@ fn order_of(text: u8) -> Order {
     }
 }
 
-fn show_unsigned(section: &[u8], at: usize, code: usize, order: Order) {
+fn show_unsigned(
+    out: &mut impl Write,
+    section: &[u8],
+    at: usize,
+    code: usize,
+    order: Order,
+) -> io::Result<()> {
     match number_at(section, at, code, order) {
-        Number::Is(n) => {
-            io::print_decimal(STDOUT_FILENO, n);
-            say(b" = 0x");
-            io::print_hex(STDOUT_FILENO, n, 1);
-        }
-        Number::Outside => {
-            say(b"outside");
-        }
-        Number::NoWidth => {
-            say(b"no such width");
-        }
+        Number::Is(n) => write!(out, "{n} = 0x{n:x}"),
+        Number::Outside => say(out, b"outside"),
+        Number::NoWidth => say(out, b"no such width"),
     }
 }
 
-fn show_shift(shift: Shift) {
+fn show_shift(out: &mut impl Write, shift: Shift) -> io::Result<()> {
     match shift {
-        Shift::Up(n) => {
-            io::print_decimal(STDOUT_FILENO, n);
-        }
-        Shift::Down(n) => {
-            say(b"-");
-            io::print_decimal(STDOUT_FILENO, n);
-        }
+        Shift::Up(n) => write!(out, "{n}"),
+        Shift::Down(n) => write!(out, "-{n}"),
     }
 }
 
-fn show_signed(section: &[u8], at: usize, code: usize, order: Order) {
+fn show_signed(
+    out: &mut impl Write,
+    section: &[u8],
+    at: usize,
+    code: usize,
+    order: Order,
+) -> io::Result<()> {
     if 2 < code {
-        say(b"no such width");
-        return;
+        return say(out, b"no such width");
     }
     let width = width_of(code);
     if section.len() < at {
-        say(b"outside");
-        return;
+        return say(out, b"outside");
     }
     if section.len() - at < width {
-        say(b"outside");
-        return;
+        return say(out, b"outside");
     }
-    show_shift(shift_of(offset_at(section, at, code, order)));
+    show_shift(out, shift_of(offset_at(section, at, code, order)))
 }
 
 // Repeats one question and answers it.
-fn answer(section: &[u8], line: &[u8]) {
+fn answer(out: &mut impl Write, section: &[u8], line: &[u8]) -> io::Result<()> {
     if line.len() < 32 {
-        return;
+        return Ok(());
     }
     let at = digit(line[24]) * 10 + digit(line[25]);
     let code = digit(line[27]);
     let order = order_of(line[29]);
     let sign = line[30];
-    say(&line[0..31]);
-    say(b"  ");
+    say(out, &line[0..31])?;
+    say(out, b"  ")?;
     if sign == b'S' {
-        show_signed(section, at, code, order);
+        show_signed(out, section, at, code, order)?;
     } else {
-        show_unsigned(section, at, code, order);
+        show_unsigned(out, section, at, code, order)?;
     }
-    say(b"\n");
+    say(out, b"\n")
 }
 
-fn answer_all(section: &[u8], questions: &[u8]) {
-    let mut at = 0;
-    while 32 <= questions.len() - at {
-        let end = at + 32;
-        answer(section, &questions[at..end]);
-        at = end;
+fn answer_all(out: &mut impl Write, section: &[u8], questions: &[u8]) -> io::Result<()> {
+    for line in questions.chunks_exact(32) {
+        answer(out, section, line)?;
     }
+    Ok(())
+}
+
+// Reads until the buffer is full or the input ends. The answer is how many bytes that is.
+fn read_full(input: &mut impl Read, buffer: &mut [u8]) -> io::Result<usize>
+    ensures { ReadsAtMost result buffer.new }
+{
+    let mut done = 0;
+    while done < buffer.len() {
+        let n = input.read(&mut buffer[done..])?;
+        if n == 0 {
+            break;
+        }
+        done += n;
+    }
+    Ok(done)
 }
 
 // What a file holds, at most 4,096 bytes of it, and how many bytes that is.
-fn load(path: &[u8], buffer: &mut [u8]) -> usize
-    ensures { IsPrefixLen result buffer.new }
+fn load(rt: &(impl Files + Eprint), path: &str, buffer: &mut [u8]) -> io::Result<usize>
+    ensures { ReadsAtMost result buffer.new }
 {
-    let file = os::open_read(path);
-    if file < 0 {
-        os::fail(path);
-        return 0;
+    match fs::open(rt, path) {
+        Ok(mut file) => read_full(&mut file, buffer),
+        Err(error) => {
+            eprintln!(rt; "{path}: {error}")?;
+            Ok(0)
+        }
     }
-    let n = io::read_full(file, buffer);
-    libc::close(file);
-    n
 }
 
-fn main() {
-    let mut section = io::buffer();
-    let mut questions = io::buffer();
-    say(b"what                    place, code of the width, order and sign; number\n");
-    let n = load(b"S.sframe", &mut section);
-    let m = load(b"questions.txt", &mut questions);
-    answer_all(&section[..n], &questions[..m]);
+fn main(rt: HostRuntime) -> io::Result<()> {
+    let mut section = [0u8; 4096];
+    let mut questions = [0u8; 4096];
+    let mut out = BufWriter::new(rt.alloc(), io::writer(&rt))?;
+    say(
+        &mut out,
+        b"what                    place, code of the width, order and sign; number\n",
+    )?;
+    let n = load(&rt, "S.sframe", &mut section)?;
+    let m = load(&rt, "questions.txt", &mut questions)?;
+    answer_all(&mut out, &section[..n], &questions[..m])?;
+    out.flush()
 }

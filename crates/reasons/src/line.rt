@@ -4,14 +4,12 @@ use numbers::offset::{Offset, Shift, shift_of};
 // Text, as far as there is room.
 pub fn add(line: &mut [u8], at: usize, text: &[u8]) -> usize {
     let mut end = at;
-    let mut i = 0;
-    while i < text.len() {
+    for byte in text {
         if line.len() <= end {
             return end;
         }
-        line[end] = text[i];
+        line[end] = *byte;
         end = end + 1;
-        i = i + 1;
     }
     end
 }

@@ -45,10 +45,8 @@ fn add_covering(line: &mut [u8], at: usize, coverers: Coverers) -> usize {
     let told = told_of(coverers.count);
     let mut end = add_number(line, at, b"22 covering ", coverers.count);
     end = add(line, end, b":");
-    let mut i = 0;
-    while i < told {
+    for i in 0..told {
         end = add_index(line, end, indexes[i]);
-        i = i + 1;
     }
     end
 }

@@ -11,21 +11,23 @@ mod lookups;
 mod steps;
 
 ghost use Rattle.std.specs.Prelude.{◌≤◌, length};
-ghost use Rattle.io.specs.Counts.{IsPrefixLen};
+ghost use Rattle.std.specs.Io.{ReadsAtMost};
 
 use crate::lookups::add_lookup;
 use crate::steps::add_step;
 use caller::registers::{Process, Registers};
-use libc::STDOUT_FILENO;
 use numbers::field::{Order, u64_at};
+use std::io::{BufWriter, Read, Write};
+use std::rt::Files;
+use std::{fs, io};
 
 // The most bytes of records. The room has one more, so that a longer file fills it.
 const MOST: usize = 4_000_000;
 // More than two lines have: a line has at most 20 numbers, of at most 20 digits each with a name of at most 15 bytes.
 const LINES: usize = 2_048;
 
-fn say(text: &[u8]) {
-    io::write_all(STDOUT_FILENO, text);
+fn say(out: &mut impl Write, text: &[u8]) -> io::Result<()> {
+    out.write_all(text)
 }
 
 // Word k of a record.
@@ -70,17 +72,18 @@ fn add_lines(
 }
 
 // Writes a room up to where it is filled, in one piece.
-fn say_filled(room: &[u8], end: usize) {
+fn say_filled(out: &mut impl Write, room: &[u8], end: usize) -> io::Result<()> {
     if end <= room.len() {
-        say(&room[..end]);
+        say(out, &room[..end])?;
     }
+    Ok(())
 }
 
 fn lines_room() -> [u8; LINES] {
     [0u8; LINES]
 }
 
-fn answer(head: &[u8], section: &[u8], stack: &[u8])
+fn answer(out: &mut impl Write, head: &[u8], section: &[u8], stack: &[u8]) -> io::Result<()>
     requires { 80 ≤ length head.now }
 {
     let mut room = lines_room();
@@ -91,11 +94,11 @@ fn answer(head: &[u8], section: &[u8], stack: &[u8])
         process_in(head),
         registers_in(head),
     );
-    say_filled(&room, end);
+    say_filled(out, &room, end)
 }
 
 // Every record in turn. The answer is whether the last one is cut.
-fn answer_each(cases: &[u8]) -> bool {
+fn answer_each(out: &mut impl Write, cases: &[u8]) -> io::Result<bool> {
     let mut at = 0;
     while 80 <= cases.len() - at {
         let start = at + 80;
@@ -104,49 +107,65 @@ fn answer_each(cases: &[u8]) -> bool {
         let stack = word(head, 1);
         let left = (cases.len() - start) as u64;
         if left < section {
-            return true;
+            return Ok(true);
         }
         if left - section < stack {
-            return true;
+            return Ok(true);
         }
         let middle = start + section as usize;
         let end = middle + stack as usize;
-        answer(head, &cases[start..middle], &cases[middle..end]);
+        answer(out, head, &cases[start..middle], &cases[middle..end])?;
         at = end;
     }
-    false
+    Ok(false)
 }
 
 fn room() -> [u8; MOST + 1] {
     [0u8; MOST + 1]
 }
 
-// What a file holds, as far as there is room, and how many bytes that is.
-fn load(path: &[u8], buffer: &mut [u8]) -> usize
-    ensures { IsPrefixLen result buffer.new }
+// Reads until the buffer is full or the input ends. The answer is how many bytes that is.
+fn read_full(input: &mut impl Read, buffer: &mut [u8]) -> io::Result<usize>
+    ensures { ReadsAtMost result buffer.new }
 {
-    let file = os::open_read(path);
-    if file < 0 {
-        os::fail(path);
-        return 0;
+    let mut done = 0;
+    while done < buffer.len() {
+        let n = input.read(&mut buffer[done..])?;
+        if n == 0 {
+            break;
+        }
+        done += n;
     }
-    let n = io::read_full(file, buffer);
-    libc::close(file);
-    n
+    Ok(done)
 }
 
-fn show_cut() {
-    say(b"the last record is cut\n");
+// What a file holds, as far as there is room, and how many bytes that is.
+fn load(rt: &(impl Files + Eprint), path: &str, buffer: &mut [u8]) -> io::Result<usize>
+    ensures { ReadsAtMost result buffer.new }
+{
+    match fs::open(rt, path) {
+        Ok(mut file) => read_full(&mut file, buffer),
+        Err(error) => {
+            eprintln!(rt; "{path}: {error}")?;
+            Ok(0)
+        }
+    }
 }
 
-fn main() {
+fn show_cut(out: &mut impl Write) -> io::Result<()> {
+    say(out, b"the last record is cut\n")
+}
+
+fn main(rt: HostRuntime) -> io::Result<()> {
     let mut cases = room();
-    let n = load(b"cases", &mut cases);
-    if answer_each(&cases[..n]) {
-        show_cut();
-        return;
+    let n = load(&rt, "cases", &mut cases)?;
+    let mut out = BufWriter::new(rt.alloc(), io::writer(&rt))?;
+    if answer_each(&mut out, &cases[..n])? {
+        show_cut(&mut out)?;
+        return out.flush();
     }
     if MOST < n {
-        show_cut();
+        show_cut(&mut out)?;
     }
+    out.flush()
 }

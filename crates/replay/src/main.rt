@@ -14,7 +14,7 @@ mod show_walks;
 mod walks;
 
 ghost use Rattle.std.specs.Prelude.{◌+◌, ◌<◌, ◌≤◌, length};
-ghost use Rattle.io.specs.Counts.{IsPrefixLen};
+ghost use Rattle.std.specs.Io.{ReadsAtMost};
 
 use crate::asks::show_asked;
 use crate::show::{say, show_answer, show_question, show_verdict};
@@ -23,6 +23,9 @@ use accept::section_check::check;
 use ask::land::ask;
 use lookup::look::lookup;
 use numbers::field::{Order, u64_at};
+use std::io::{BufWriter, Read, Write};
+use std::rt::Files;
+use std::{fs, io};
 
 // More than the cases have, so that a file that fills it shows as cut.
 const ROOM: usize = 2_000_000;
@@ -86,14 +89,15 @@ fn walked_in(head: &[u8]) -> usize
     eight_at(head, 57)
 }
 
-fn show_name(head: &[u8]) {
+fn show_name(out: &mut impl Write, head: &[u8]) -> io::Result<()> {
     if 38 <= head.len() {
-        say(&head[0..38]);
+        say(out, &head[0..38])?;
     }
+    Ok(())
 }
 
-fn show_cut() {
-    say(b"the last case is cut\n");
+fn show_cut(out: &mut impl Write) -> io::Result<()> {
+    say(out, b"the last case is cut\n")
 }
 
 // What is made of a case: its verdict with all answers, or its questions asked once more.
@@ -104,58 +108,74 @@ enum Pass {
 }
 
 // One question on a section, looked up or asked.
-fn answer(pass: Pass, section: &[u8], address: u64, pc: u64) {
+fn answer(
+    out: &mut impl Write,
+    pass: Pass,
+    section: &[u8],
+    address: u64,
+    pc: u64,
+) -> io::Result<()> {
     match pass {
-        Pass::Answers => {
-            show_answer(lookup(section, address, pc));
-        }
-        Pass::Asks => {
-            show_asked(ask(section, address, pc));
-        }
+        Pass::Answers => show_answer(out, lookup(section, address, pc)),
+        Pass::Asks => show_asked(out, ask(section, address, pc)),
     }
 }
 
-fn answer_each(pass: Pass, section: &[u8], questions: &[u8]) {
-    let mut at = 0;
-    while 16 <= questions.len() - at {
-        let address = u64_at(questions, at, Order::Little);
-        let pc = u64_at(questions, at + 8, Order::Little);
-        show_question(address, pc);
-        answer(pass, section, address, pc);
-        at = at + 16;
+fn answer_each(
+    out: &mut impl Write,
+    pass: Pass,
+    section: &[u8],
+    questions: &[u8],
+) -> io::Result<()> {
+    let (whole, _) = questions.as_chunks::<16>();
+    for question in whole {
+        let address = u64_at(question, 0, Order::Little);
+        let pc = u64_at(question, 8, Order::Little);
+        show_question(out, address, pc)?;
+        answer(out, pass, section, address, pc)?;
     }
+    Ok(())
 }
 
 // Everything that is looked up in one section.
-fn run(head: &[u8], section: &[u8], questions: &[u8], walks: &[u8]) {
-    show_name(head);
-    show_verdict(check(section));
-    answer_each(Pass::Answers, section, questions);
-    make_walks(section, walks);
+fn run(
+    out: &mut impl Write,
+    head: &[u8],
+    section: &[u8],
+    questions: &[u8],
+    walks: &[u8],
+) -> io::Result<()> {
+    show_name(out, head)?;
+    show_verdict(out, check(section))?;
+    answer_each(out, Pass::Answers, section, questions)?;
+    make_walks(out, section, walks)
 }
 
 // A case without questions is not told again.
-fn run_asks(head: &[u8], section: &[u8], questions: &[u8]) {
+fn run_asks(out: &mut impl Write, head: &[u8], section: &[u8], questions: &[u8]) -> io::Result<()> {
     if questions.len() == 0 {
-        return;
+        return Ok(());
     }
-    show_name(head);
-    say(b" asked\n");
-    answer_each(Pass::Asks, section, questions);
+    show_name(out, head)?;
+    say(out, b" asked\n")?;
+    answer_each(out, Pass::Asks, section, questions)
 }
 
-fn run_pass(pass: Pass, head: &[u8], section: &[u8], questions: &[u8], walks: &[u8]) {
+fn run_pass(
+    out: &mut impl Write,
+    pass: Pass,
+    head: &[u8],
+    section: &[u8],
+    questions: &[u8],
+    walks: &[u8],
+) -> io::Result<()> {
     match pass {
-        Pass::Answers => {
-            run(head, section, questions, walks);
-        }
-        Pass::Asks => {
-            run_asks(head, section, questions);
-        }
+        Pass::Answers => run(out, head, section, questions, walks),
+        Pass::Asks => run_asks(out, head, section, questions),
     }
 }
 
-fn replay(pass: Pass, cases: &[u8]) {
+fn replay(out: &mut impl Write, pass: Pass, cases: &[u8]) -> io::Result<()> {
     let mut at = 0;
     while 66 <= cases.len() - at {
         let start = at + 66;
@@ -163,44 +183,61 @@ fn replay(pass: Pass, cases: &[u8]) {
         let asked = asked_in(&cases[at..start]);
         let walked = walked_in(&cases[at..start]);
         if cases.len() - start < length + asked + walked {
-            show_cut();
-            return;
+            return show_cut(out);
         }
         let first = start + length;
         let second = first + asked;
         let end = second + walked;
         run_pass(
+            out,
             pass,
             &cases[at..start],
             &cases[start..first],
             &cases[first..second],
             &cases[second..end],
-        );
+        )?;
         at = end;
     }
+    Ok(())
 }
 
 fn room() -> [u8; ROOM] {
     [0u8; ROOM]
 }
 
-// What a file holds, as far as there is room, and how many bytes that is.
-fn load(path: &[u8], buffer: &mut [u8]) -> usize
-    ensures { IsPrefixLen result buffer.new }
+// Reads until the buffer is full or the input ends. The answer is how many bytes that is.
+fn read_full(input: &mut impl Read, buffer: &mut [u8]) -> io::Result<usize>
+    ensures { ReadsAtMost result buffer.new }
 {
-    let file = os::open_read(path);
-    if file < 0 {
-        os::fail(path);
-        return 0;
+    let mut done = 0;
+    while done < buffer.len() {
+        let n = input.read(&mut buffer[done..])?;
+        if n == 0 {
+            break;
+        }
+        done += n;
     }
-    let n = io::read_full(file, buffer);
-    libc::close(file);
-    n
+    Ok(done)
 }
 
-fn main() {
+// What a file holds, as far as there is room, and how many bytes that is.
+fn load(rt: &(impl Files + Eprint), path: &str, buffer: &mut [u8]) -> io::Result<usize>
+    ensures { ReadsAtMost result buffer.new }
+{
+    match fs::open(rt, path) {
+        Ok(mut file) => read_full(&mut file, buffer),
+        Err(error) => {
+            eprintln!(rt; "{path}: {error}")?;
+            Ok(0)
+        }
+    }
+}
+
+fn main(rt: HostRuntime) -> io::Result<()> {
     let mut cases = room();
-    let n = load(b"cases", &mut cases);
-    replay(Pass::Answers, &cases[..n]);
-    replay(Pass::Asks, &cases[..n]);
+    let n = load(&rt, "cases", &mut cases)?;
+    let mut out = BufWriter::new(rt.alloc(), io::writer(&rt))?;
+    replay(&mut out, Pass::Answers, &cases[..n])?;
+    replay(&mut out, Pass::Asks, &cases[..n])?;
+    out.flush()
 }

@@ -8,6 +8,8 @@ use crate::show::say;
 use crate::show_walks::{show_frames, show_step, show_traced, show_walk};
 use caller::registers::{Process, Registers};
 use numbers::field::{Order, u64_at};
+use std::io;
+use std::io::Write;
 use trace::walk::trace;
 
 // As many words as a walk's buffer may have.
@@ -46,10 +48,8 @@ fn registers_in(walk: &[u8]) -> Registers
 
 // Every word other than its neighbours, so that one that is written can be told from one that is kept.
 fn fill(buffer: &mut [u64]) {
-    let mut k = 0;
-    while k < buffer.len() {
-        buffer[k] = BEFORE + k as u64 % 65536;
-        k = k + 1;
+    for (k, word) in buffer.iter_mut().enumerate() {
+        *word = BEFORE + k as u64 % 65536;
     }
 }
 
@@ -66,10 +66,8 @@ fn is_kept(word: u64, k: usize) -> u64
 // How many words from a place on hold what they held.
 fn kept_from(buffer: &[u64], from: usize) -> u64 {
     let mut kept = 0;
-    let mut k = from;
-    while k < buffer.len() {
+    for k in from..buffer.len() {
         kept = kept + is_kept(buffer[k], k);
-        k = k + 1;
     }
     kept
 }
@@ -85,22 +83,24 @@ fn written_in(buffer: &[u64], frames: u64) -> usize
 }
 
 fn make_trace(
+    out: &mut impl Write,
     section: &[u8],
     stack: &[u8],
     process: Process,
     registers: Registers,
     limit: u64,
     buffer: &mut [u64],
-) {
+) -> io::Result<()> {
     fill(buffer);
     let traced = trace(section, stack, process, registers, limit, buffer);
     let written = written_in(buffer, traced.frames);
-    show_traced(traced, kept_from(buffer, written));
-    show_frames(&buffer[..written]);
+    show_traced(out, traced, kept_from(buffer, written))?;
+    show_frames(out, &buffer[..written])
 }
 
 // A trace into as many words of the room as are asked for.
 fn trace_into(
+    out: &mut impl Write,
     section: &[u8],
     stack: &[u8],
     process: Process,
@@ -108,28 +108,31 @@ fn trace_into(
     limit: u64,
     words: u64,
     room: &mut [u64],
-) {
+) -> io::Result<()> {
     if words <= room.len() as u64 {
         let n = words as usize;
-        make_trace(section, stack, process, registers, limit, &mut room[..n]);
+        let buffer = &mut room[..n];
+        make_trace(out, section, stack, process, registers, limit, buffer)?;
     }
+    Ok(())
 }
 
 fn room() -> [u64; WORDS] {
     [0u64; WORDS]
 }
 
-fn make_walk(section: &[u8], walk: &[u8], stack: &[u8])
+fn make_walk(out: &mut impl Write, section: &[u8], walk: &[u8], stack: &[u8]) -> io::Result<()>
     requires { 88 ≤ length walk.now }
 {
     let process = process_in(walk);
     let registers = registers_in(walk);
     let limit = word(walk, 8);
     let words = word(walk, 9);
-    show_walk(process, registers, stack.len() as u64, limit, words);
-    show_step(registers.step(section, stack, process));
+    show_walk(out, process, registers, stack.len() as u64, limit, words)?;
+    show_step(out, registers.step(section, stack, process))?;
     let mut buffer = room();
     trace_into(
+        out,
         section,
         stack,
         process,
@@ -137,20 +140,20 @@ fn make_walk(section: &[u8], walk: &[u8], stack: &[u8])
         limit,
         words,
         &mut buffer,
-    );
+    )
 }
 
-pub fn make_walks(section: &[u8], walks: &[u8]) {
+pub fn make_walks(out: &mut impl Write, section: &[u8], walks: &[u8]) -> io::Result<()> {
     let mut at = 0;
     while 88 <= walks.len() - at {
         let start = at + 88;
         let length = word(&walks[at..start], 10);
         if ((walks.len() - start) as u64) < length {
-            say(b"the last walk is cut\n");
-            return;
+            return say(out, b"the last walk is cut\n");
         }
         let end = start + length as usize;
-        make_walk(section, &walks[at..start], &walks[start..end]);
+        make_walk(out, section, &walks[at..start], &walks[start..end])?;
         at = end;
     }
+    Ok(())
 }
