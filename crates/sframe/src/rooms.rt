@@ -137,6 +137,9 @@ fn read_full(file: &mut impl Read, room: &mut [u8]) -> usize
 {
     let mut done = 0;
     for _ in 0..room.len() {
+        if room.len() <= done {
+            return done;
+        }
         match file.read(&mut room[done..]) {
             Err(_) | Ok(0) => return done,
             Ok(more) => done = done + more,
