@@ -1,6 +1,6 @@
 // How much of a file can be read. The room for it lies on this program's stack, which the system limits; so there are rooms of four
 // sizes, and what the limit leaves tells which of them can be had.
-ghost use Rattle.std.specs.Prelude.{◌≤◌, length};
+ghost use Rattle.std.specs.Prelude.{◌≡◌, ◌≤◌, length, take};
 
 use crate::arguments::open_read;
 use crate::text::{Found, behind};
@@ -133,7 +133,8 @@ fn number_behind(text: &[u8], name: &[u8]) -> Parsed {
 
 // Reads until the room is full, the file ends or a read fails, and answers how many bytes it put at the start of the room.
 fn read_full(file: &mut impl Read, room: &mut [u8]) -> usize
-    ensures { result ≤ length room.new }
+    ensures within { result ≤ length room.new }
+    ensures prefix { length (take result room.new) ≡ result }
 {
     let mut done = 0;
     for _ in 0..room.len() {
@@ -150,7 +151,8 @@ fn read_full(file: &mut impl Read, room: &mut [u8]) -> usize
 
 // The first bytes of a file of the system's; none where it cannot be read.
 fn read_first(rt: &impl Files, path: &[u8], room: &mut [u8]) -> usize
-    ensures { result ≤ length room.new }
+    ensures within { result ≤ length room.new }
+    ensures prefix { length (take result room.new) ≡ result }
 {
     match open_read(rt, path) {
         Err(_) => 0,
