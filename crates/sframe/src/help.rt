@@ -1,4 +1,5 @@
 // What `sframe help` prints: a part for each command, and what its arguments are. The texts stand here as they are printed.
+use crate::console::Console;
 use crate::say::{complain, note, note_argument, say};
 use crate::text::is_same;
 
@@ -67,17 +68,18 @@ pub fn command_of(word: &[u8]) -> Command {
 }
 
 // A word that names no command.
-pub fn complain_of_word(word: &[u8]) {
-    note(b"sframe: '");
-    note_argument(word);
-    complain(b"' is no command; 'sframe help' lists them\n");
+pub fn complain_of_word(console: &Console, word: &[u8]) {
+    note(console, b"sframe: '");
+    note_argument(console, word);
+    complain(console, b"' is no command; 'sframe help' lists them\n");
 }
 
 // How the program itself is asked.
-fn say_use_of_itself(command: Command) {
+fn say_use_of_itself(console: &Console, command: Command) {
     match command {
         Command::Help => {
             say(
+                console,
                 b"\
 sframe help [COMMAND]
     this text, or what it says of one command; also --help, -h, and COMMAND --help
@@ -86,6 +88,7 @@ sframe help [COMMAND]
         }
         Command::Version => {
             say(
+                console,
                 b"\
 sframe version
     the version of this program; also --version
@@ -97,10 +100,11 @@ sframe version
 }
 
 // How a step, a trace and why are asked for.
-fn say_use_of_walk(command: Command) {
+fn say_use_of_walk(console: &Console, command: Command) {
     match command {
         Command::Why => {
             say(
+                console,
                 b"\
 sframe why FILE ADDRESS PC
 sframe why FILE ADDRESS STACK STACK_ADDRESS PC SP FP LR FIRST MASK
@@ -110,6 +114,7 @@ sframe why FILE ADDRESS STACK STACK_ADDRESS PC SP FP LR FIRST MASK
         }
         Command::Caller => {
             say(
+                console,
                 b"\
 sframe caller FILE ADDRESS STACK STACK_ADDRESS PC SP FP LR FIRST [MASK]
     the registers of the caller
@@ -118,21 +123,23 @@ sframe caller FILE ADDRESS STACK STACK_ADDRESS PC SP FP LR FIRST [MASK]
         }
         Command::Trace => {
             say(
+                console,
                 b"\
 sframe trace FILE ADDRESS STACK STACK_ADDRESS PC SP FP LR LIMIT [MASK]
     every caller in turn, at most LIMIT of them
 ",
             );
         }
-        _ => say_use_of_itself(command),
+        _ => say_use_of_itself(console, command),
     }
 }
 
 // How a command is typed, and what it is for.
-fn say_use(command: Command) {
+fn say_use(console: &Console, command: Command) {
     match command {
         Command::Check => {
             say(
+                console,
                 b"\
 sframe check FILE
     whether a section is accepted, else the first broken rule
@@ -141,6 +148,7 @@ sframe check FILE
         }
         Command::List => {
             say(
+                console,
                 b"\
 sframe list FILE [INDEX]
     every function and row of a section, or one function by its index
@@ -149,6 +157,7 @@ sframe list FILE [INDEX]
         }
         Command::Lookup => {
             say(
+                console,
                 b"\
 sframe lookup FILE ADDRESS PC...
     the function and the row for each PC
@@ -157,18 +166,20 @@ sframe lookup FILE ADDRESS PC...
         }
         Command::Ask => {
             say(
+                console,
                 b"\
 sframe ask FILE ADDRESS PC...
     the same without a check of the whole section: only what the answer needs is read
 ",
             );
         }
-        _ => say_use_of_walk(command),
+        _ => say_use_of_walk(console, command),
     }
 }
 
-fn say_of_files() {
+fn say_of_files(console: &Console) {
     say(
+        console,
         b"
 FILE has the bytes of an .sframe section, at most 16777216, and ADDRESS is where the section is loaded.
     objcopy -O binary --only-section=.sframe PROGRAM FILE    takes the section out of a program
@@ -177,8 +188,9 @@ FILE has the bytes of an .sframe section, at most 16777216, and ADDRESS is where
     );
 }
 
-fn say_of_walks() {
+fn say_of_walks(console: &Console) {
     say(
+        console,
         b"\
 STACK has the bytes of the stack window, at most 16777216, and STACK_ADDRESS is where its first byte lies.
 PC, SP, FP and LR are the registers. FIRST is 0 for no first-frame mark, any other number for the mark.
@@ -189,8 +201,9 @@ LIMIT is the most frames, up to 256, and 0 stands for 128.
     );
 }
 
-fn say_of_numbers() {
+fn say_of_numbers(console: &Console) {
     say(
+        console,
         b"\
 INDEX counts the functions from 0. INDEX and LIMIT are decimal, 1 to 19 digits.
 All other numbers given are hexadecimal, 1 to 16 digits, with or without a leading 0x or 0X. Leading zeros do not count.
@@ -201,44 +214,44 @@ and 2 where the command line is wrong, a file cannot be read or the answer canno
 }
 
 // What the arguments of one command are.
-fn say_of_arguments(command: Command) {
+fn say_of_arguments(console: &Console, command: Command) {
     match command {
         Command::Check | Command::List | Command::Lookup | Command::Ask => {
-            say_of_files();
-            say_of_numbers();
+            say_of_files(console);
+            say_of_numbers(console);
         }
         Command::Why | Command::Caller | Command::Trace => {
-            say_of_files();
-            say_of_walks();
-            say_of_numbers();
+            say_of_files(console);
+            say_of_walks(console);
+            say_of_numbers(console);
         }
         Command::Help | Command::Version | Command::Unknown => {}
     }
 }
 
 // All of it.
-pub fn show_help() {
-    say_use(Command::Check);
-    say_use(Command::List);
-    say_use(Command::Lookup);
-    say_use(Command::Ask);
-    say_use(Command::Why);
-    say_use(Command::Caller);
-    say_use(Command::Trace);
-    say_use(Command::Help);
-    say_use(Command::Version);
-    say_of_files();
-    say_of_walks();
-    say_of_numbers();
+pub fn show_help(console: &Console) {
+    say_use(console, Command::Check);
+    say_use(console, Command::List);
+    say_use(console, Command::Lookup);
+    say_use(console, Command::Ask);
+    say_use(console, Command::Why);
+    say_use(console, Command::Caller);
+    say_use(console, Command::Trace);
+    say_use(console, Command::Help);
+    say_use(console, Command::Version);
+    say_of_files(console);
+    say_of_walks(console);
+    say_of_numbers(console);
 }
 
 // What is said of the command that a word names.
-pub fn show_help_of(word: &[u8]) {
+pub fn show_help_of(console: &Console, word: &[u8]) {
     let command = command_of(word);
     if let Command::Unknown = command {
-        complain_of_word(word);
+        complain_of_word(console, word);
         return;
     }
-    say_use(command);
-    say_of_arguments(command);
+    say_use(console, command);
+    say_of_arguments(console, command);
 }

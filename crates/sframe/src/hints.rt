@@ -1,42 +1,49 @@
 // What may help where a file is not what it was taken for: it goes to standard error, beside the answer.
 use crate::arguments::{is_input, note_file, note_given};
+use crate::console::Console;
 use crate::say::{note, note_number};
 use crate::text::does_begin;
 use numbers::field::{Number, Order, number_at};
+use std::rt::Env;
 
 // Argument 2 is the section's file: here the program that it is taken from.
-fn note_program() {
-    if is_input(2) {
-        note(b"PROGRAM");
+fn note_program(rt: &impl Env, console: &Console) {
+    if is_input(rt, 2) {
+        note(console, b"PROGRAM");
         return;
     }
-    note_given(2);
+    note_given(rt, console, 2);
 }
 
-fn hint_of_elf() {
-    note(b"sframe: ");
-    note_file(2);
+fn hint_of_elf(rt: &impl Env, console: &Console) {
+    note(console, b"sframe: ");
+    note_file(rt, console, 2);
     note(
+        console,
         b" is an ELF file, not the bytes of a section. Its section is taken out by\n    objcopy -O binary --only-section=.sframe ",
     );
-    note_program();
-    note(b" section.sframe\n");
+    note_program(rt, console);
+    note(console, b" section.sframe\n");
 }
 
-fn hint_of_empty() {
-    note(b"sframe: ");
-    note_file(2);
+fn hint_of_empty(rt: &impl Env, console: &Console) {
+    note(console, b"sframe: ");
+    note_file(rt, console, 2);
     note(
+        console,
         b" is empty: was it taken from a program that has no .sframe section? 'readelf -SW PROGRAM' lists its sections\n",
     );
 }
 
-fn hint_of_version(version: u8) {
-    note(b"sframe: ");
-    note_file(2);
-    note(b" is a section of version ");
-    note_number(version as u64);
-    note(b", and version 2 is read, which GNU binutils 2.41 to 2.45 write\n");
+fn hint_of_version(rt: &impl Env, console: &Console, version: u8) {
+    note(console, b"sframe: ");
+    note_file(rt, console, 2);
+    note(console, b" is a section of version ");
+    note_number(console, version as u64);
+    note(
+        console,
+        b", and version 2 is read, which GNU binutils 2.41 to 2.45 write\n",
+    );
 }
 
 // Whether the magic stands there in one of the byte orders.
@@ -48,27 +55,27 @@ fn is_section(section: &[u8]) -> bool {
 }
 
 // The version is the byte behind the magic.
-fn hint_of_other(section: &[u8]) {
+fn hint_of_other(rt: &impl Env, console: &Console, section: &[u8]) {
     if section.len() < 3 {
         return;
     }
     if section[2] != 2 {
-        hint_of_version(section[2]);
+        hint_of_version(rt, console, section[2]);
     }
 }
 
 // A file that is no section of version 2, and what it is.
-pub fn hint_of_file(section: &[u8]) {
+pub fn hint_of_file(rt: &impl Env, console: &Console, section: &[u8]) {
     if section.len() < 1 {
-        hint_of_empty();
+        hint_of_empty(rt, console);
         return;
     }
     if does_begin(section, b"\x7fELF") {
-        hint_of_elf();
+        hint_of_elf(rt, console);
         return;
     }
     if is_section(section) {
-        hint_of_other(section);
+        hint_of_other(rt, console, section);
     }
 }
 
@@ -91,12 +98,13 @@ fn are_starts_empty(section: &[u8], auxiliary: u8) -> bool {
 }
 
 // Behind a dispute: in an object file every start field is still 0, and the linker fills it in.
-pub fn hint_of_unlinked(section: &[u8]) {
+pub fn hint_of_unlinked(console: &Console, section: &[u8]) {
     if section.len() < 8 {
         return;
     }
     if are_starts_empty(section, section[7]) {
         note(
+            console,
             b"sframe: no start is filled in, as in an object file that is not linked: take the section from the linked program\n",
         );
     }

@@ -1,6 +1,7 @@
 // A line as it is put together: text and numbers at fixed columns of a room of blanks, so that it is written at once.
 ghost use Rattle.std.specs.Prelude.{◌≤◌};
 
+use crate::console::Console;
 use crate::say::say;
 use numbers::offset::{Offset, Shift, shift_of};
 
@@ -13,16 +14,14 @@ pub fn blank_line() -> [u8; WIDTH] {
 
 // Text from a column on, as far as there is room.
 pub fn put(line: &mut [u8], column: usize, text: &[u8]) {
-    let mut i = 0;
-    while i < text.len() {
+    for (i, byte) in text.iter().enumerate() {
         if line.len() <= i {
             return;
         }
         if line.len() - i <= column {
             return;
         }
-        line[column + i] = text[i];
-        i = i + 1;
+        line[column + i] = *byte;
     }
 }
 
@@ -64,15 +63,13 @@ pub fn put_number(line: &mut [u8], end: usize, number: u64) -> usize
 fn put_hex(line: &mut [u8], end: usize, number: u64) {
     let mut at = end;
     let mut rest = number;
-    let mut left: usize = 8;
-    while 0 < left {
+    for _ in 0..8 {
         if at < 1 {
             return;
         }
         put_digit(line, at, (rest % 16) as u8);
         at = at - 1;
         rest = rest / 16;
-        left = left - 1;
     }
 }
 
@@ -114,7 +111,7 @@ pub fn put_start(line: &mut [u8], start: Offset) {
 }
 
 // Writes a line from a column to an end, in one piece.
-pub fn say_line(line: &mut [u8], first: usize, end: usize) {
+pub fn say_line(console: &Console, line: &mut [u8], first: usize, end: usize) {
     if line.len() <= end {
         return;
     }
@@ -122,5 +119,5 @@ pub fn say_line(line: &mut [u8], first: usize, end: usize) {
         return;
     }
     line[end] = b'\n';
-    say(&line[first..end + 1]);
+    say(console, &line[first..end + 1]);
 }

@@ -1,6 +1,7 @@
 // The listing of a section: a line for each function, and below it one for each of its rows. The columns are fixed, so that a script
 // can cut them.
 use crate::arguments::count_given;
+use crate::console::Console;
 use crate::line::{blank_line, put, put_number, put_offset, put_start, say_line};
 use crate::say::{complain, note, note_number};
 use crate::status::tell_refused;
@@ -12,6 +13,7 @@ use listing::lines::{Cursor, FunctionLine, Line, NextLine, cursor_over, next_lin
 use section::header::{Layout, layout_at};
 use section::row::{Base, Place, Row};
 use section::shape::Abi;
+use std::rt::Env;
 
 // The size of a repeated block. The answer is where the line ends.
 fn put_kind(line: &mut [u8], kind: Kind) -> usize {
@@ -87,25 +89,25 @@ fn put_row(line: &mut [u8], abi: Abi, row: Row) -> usize {
     }
 }
 
-fn show_in(room: &mut [u8], abi: Abi, line: Line) {
+fn show_in(console: &Console, room: &mut [u8], abi: Abi, line: Line) {
     match line {
         Line::OfFunction(function) => {
             let end = put_function(room, function);
-            say_line(room, 0, end);
+            say_line(console, room, 0, end);
         }
         Line::OfRow(row) => {
             let end = put_row(room, abi, row);
-            say_line(room, 0, end);
+            say_line(console, room, 0, end);
         }
     }
 }
 
-fn show_line(abi: Abi, line: Line) {
+fn show_line(console: &Console, abi: Abi, line: Line) {
     let mut room = blank_line();
-    show_in(&mut room, abi, line);
+    show_in(console, &mut room, abi, line);
 }
 
-fn show_lines(section: &[u8], abi: Abi, from: Cursor) {
+fn show_lines(console: &Console, section: &[u8], abi: Abi, from: Cursor) {
     let mut cursor = from;
     loop {
         let turn = next_line(section, cursor);
@@ -115,7 +117,7 @@ fn show_lines(section: &[u8], abi: Abi, from: Cursor) {
                 return;
             }
             NextLine::One(line) => {
-                show_line(abi, line);
+                show_line(console, abi, line);
                 cursor = turn.cursor;
             }
         }
@@ -123,70 +125,73 @@ fn show_lines(section: &[u8], abi: Abi, from: Cursor) {
 }
 
 // The number and the index, with a blank between them.
-fn show_two_in(room: &mut [u8], number: u64, index: u64) {
+fn show_two_in(console: &Console, room: &mut [u8], number: u64, index: u64) {
     let second = put_number(room, 64, index);
     if second < 1 {
         return;
     }
     let first = put_number(room, second - 1, number);
-    say_line(room, first, 64);
+    say_line(console, room, first, 64);
 }
 
-fn show_refusal(number: u64, index: u64) {
+fn show_refusal(console: &Console, number: u64, index: u64) {
     let mut room = blank_line();
-    tell_refused();
-    show_two_in(&mut room, number, index);
-    note(b"sframe: the section is refused; 'sframe check' says why\n");
+    tell_refused(console);
+    show_two_in(console, &mut room, number, index);
+    note(
+        console,
+        b"sframe: the section is refused; 'sframe check' says why\n",
+    );
 }
 
-fn complain_of_index(index: u64, functions: u64) {
-    note(b"sframe: there is no function ");
-    note_number(index);
-    note(b": the section has ");
-    note_number(functions);
-    complain(b"\n");
+fn complain_of_index(console: &Console, index: u64, functions: u64) {
+    note(console, b"sframe: there is no function ");
+    note_number(console, index);
+    note(console, b": the section has ");
+    note_number(console, functions);
+    complain(console, b"\n");
 }
 
-fn show_one(section: &[u8], layout: Layout, index: u64) {
+fn show_one(console: &Console, section: &[u8], layout: Layout, index: u64) {
     let abi = layout.abi;
     if index < layout.functions as u64 {
-        show_lines(section, abi, cursor_over(index, 1));
+        show_lines(console, section, abi, cursor_over(index, 1));
         return;
     }
-    complain_of_index(index, layout.functions as u64);
+    complain_of_index(console, index, layout.functions as u64);
 }
 
 // All of a section.
-fn list_all(section: &[u8]) {
+fn list_all(console: &Console, section: &[u8]) {
     match check(section) {
-        Verdict::Refused { number, index } => show_refusal(number, index),
+        Verdict::Refused { number, index } => show_refusal(console, number, index),
         Verdict::Accepted => {
             let layout = layout_at(section);
             let abi = layout.abi;
-            show_lines(section, abi, cursor_over(0, layout.functions));
+            show_lines(console, section, abi, cursor_over(0, layout.functions));
         }
     }
 }
 
 // One function, by argument 3.
-fn list_one(section: &[u8]) {
-    let Parsed::Number(index) = count_given(3, b"INDEX") else {
+fn list_one(rt: &impl Env, console: &Console, section: &[u8]) {
+    let Parsed::Number(index) = count_given(rt, console, 3, b"INDEX") else {
         return;
     };
     match check(section) {
         Verdict::Refused {
             number,
             index: fault,
-        } => show_refusal(number, fault),
-        Verdict::Accepted => show_one(section, layout_at(section), index),
+        } => show_refusal(console, number, fault),
+        Verdict::Accepted => show_one(console, section, layout_at(section), index),
     }
 }
 
 // With `given` arguments behind the command: FILE, or FILE and INDEX.
-pub fn answer_list(section: &[u8], given: usize) {
+pub fn answer_list(rt: &impl Env, console: &Console, section: &[u8], given: usize) {
     if given < 2 {
-        list_all(section);
+        list_all(console, section);
         return;
     }
-    list_one(section);
+    list_one(rt, console, section);
 }

@@ -5,6 +5,7 @@
 
 mod answers;
 mod arguments;
+mod console;
 mod help;
 mod hints;
 mod line;
@@ -25,169 +26,184 @@ mod walks;
 
 use crate::answers::Question;
 use crate::arguments::is_argument;
+use crate::console::Console;
 use crate::help::{Command, command_of, complain_of_word, show_help, show_help_of};
 use crate::say::{complain, is_output_open};
 use crate::sections::ask;
-use crate::status::{argument_count, tell_end};
+use crate::status::{ARGUMENT, argument_count, put_argument, tell_end};
 use crate::version::show_version;
 use crate::walks::Sought;
+use std::rt::{Env, Files};
 
 // Whether as many arguments are given as are taken.
-fn are_all(given: usize, taken: usize, complaint: &[u8]) -> bool {
+fn are_all(console: &Console, given: usize, taken: usize, complaint: &[u8]) -> bool {
     if given == taken {
         return true;
     }
-    complain(complaint);
+    complain(console, complaint);
     false
 }
 
 // As are_all, where the last argument may be left out.
-fn are_enough(given: usize, taken: usize, complaint: &[u8]) -> bool {
+fn are_enough(console: &Console, given: usize, taken: usize, complaint: &[u8]) -> bool {
     if given < taken {
-        return are_all(given + 1, taken, complaint);
+        return are_all(console, given + 1, taken, complaint);
     }
-    are_all(given, taken, complaint)
+    are_all(console, given, taken, complaint)
 }
 
 // As are_all, where there may be more of the last argument.
-fn are_some(given: usize, least: usize, complaint: &[u8]) -> bool {
+fn are_some(console: &Console, given: usize, least: usize, complaint: &[u8]) -> bool {
     if least < given {
         return true;
     }
-    are_all(given, least, complaint)
+    are_all(console, given, least, complaint)
 }
 
-fn ask_check(given: usize) {
-    if are_all(given, 1, b"sframe: 'check' takes FILE\n") {
-        ask(Question::Check, given);
+fn ask_check(rt: &(impl Env + Files + Input), console: &Console, given: usize) {
+    if are_all(console, given, 1, b"sframe: 'check' takes FILE\n") {
+        ask(rt, console, Question::Check, given);
     }
 }
 
-fn ask_list(given: usize) {
-    if are_enough(given, 2, b"sframe: 'list' takes FILE [INDEX]\n") {
-        ask(Question::List, given);
+fn ask_list(rt: &(impl Env + Files + Input), console: &Console, given: usize) {
+    if are_enough(console, given, 2, b"sframe: 'list' takes FILE [INDEX]\n") {
+        ask(rt, console, Question::List, given);
     }
 }
 
-fn ask_lookup(given: usize) {
-    if are_some(given, 3, b"sframe: 'lookup' takes FILE ADDRESS PC...\n") {
-        ask(Question::Lookup, given);
+fn ask_lookup(rt: &(impl Env + Files + Input), console: &Console, given: usize) {
+    if are_some(
+        console,
+        given,
+        3,
+        b"sframe: 'lookup' takes FILE ADDRESS PC...\n",
+    ) {
+        ask(rt, console, Question::Lookup, given);
     }
 }
 
-fn ask_ask(given: usize) {
-    if are_some(given, 3, b"sframe: 'ask' takes FILE ADDRESS PC...\n") {
-        ask(Question::Ask, given);
+fn ask_ask(rt: &(impl Env + Files + Input), console: &Console, given: usize) {
+    if are_some(
+        console,
+        given,
+        3,
+        b"sframe: 'ask' takes FILE ADDRESS PC...\n",
+    ) {
+        ask(rt, console, Question::Ask, given);
     }
 }
 
 // Why a lookup comes to its answer takes as many arguments as the lookup of one PC; any other number is taken for that of a caller.
-fn ask_why(given: usize) {
+fn ask_why(rt: &(impl Env + Files + Input), console: &Console, given: usize) {
     if given == 3 {
-        ask(Question::Why, given);
+        ask(rt, console, Question::Why, given);
         return;
     }
     if are_all(
+        console,
         given,
         10,
         b"sframe: 'why' takes FILE ADDRESS PC, or FILE ADDRESS STACK STACK_ADDRESS PC SP FP LR FIRST MASK\n",
     ) {
-        ask(Question::Walks(Sought::Why), given);
+        ask(rt, console, Question::Walks(Sought::Why), given);
     }
 }
 
-fn ask_caller(given: usize) {
+fn ask_caller(rt: &(impl Env + Files + Input), console: &Console, given: usize) {
     if are_enough(
+        console,
         given,
         10,
         b"sframe: 'caller' takes FILE ADDRESS STACK STACK_ADDRESS PC SP FP LR FIRST [MASK]\n",
     ) {
-        ask(Question::Walks(Sought::Caller), given);
+        ask(rt, console, Question::Walks(Sought::Caller), given);
     }
 }
 
-fn ask_trace(given: usize) {
+fn ask_trace(rt: &(impl Env + Files + Input), console: &Console, given: usize) {
     if are_enough(
+        console,
         given,
         10,
         b"sframe: 'trace' takes FILE ADDRESS STACK STACK_ADDRESS PC SP FP LR LIMIT [MASK]\n",
     ) {
-        ask(Question::Walks(Sought::Trace), given);
+        ask(rt, console, Question::Walks(Sought::Trace), given);
     }
 }
 
-fn answer_help(given: usize) {
+fn answer_help(rt: &impl Env, console: &Console, given: usize) {
     if given == 0 {
-        show_help();
+        show_help(console);
         return;
     }
-    if are_all(given, 1, b"sframe: 'help' takes [COMMAND]\n") {
-        let mut word = io::buffer();
-        let n = os::arg(2, &mut word);
-        show_help_of(&word[..n]);
+    if are_all(console, given, 1, b"sframe: 'help' takes [COMMAND]\n") {
+        let mut word = [0u8; ARGUMENT];
+        let n = put_argument(rt, 2, &mut word);
+        show_help_of(console, &word[..n]);
     }
 }
 
-fn answer_version(given: usize) {
-    if are_all(given, 0, b"sframe: 'version' takes no arguments\n") {
-        show_version();
+fn answer_version(console: &Console, given: usize) {
+    if are_all(console, given, 0, b"sframe: 'version' takes no arguments\n") {
+        show_version(console);
     }
 }
 
-fn run(word: &[u8], given: usize) {
+fn run(rt: &(impl Env + Files + Input), console: &Console, word: &[u8], given: usize) {
     match command_of(word) {
-        Command::Check => ask_check(given),
-        Command::List => ask_list(given),
-        Command::Lookup => ask_lookup(given),
-        Command::Ask => ask_ask(given),
-        Command::Why => ask_why(given),
-        Command::Caller => ask_caller(given),
-        Command::Trace => ask_trace(given),
-        Command::Help => answer_help(given),
-        Command::Version => answer_version(given),
-        Command::Unknown => complain_of_word(word),
+        Command::Check => ask_check(rt, console, given),
+        Command::List => ask_list(rt, console, given),
+        Command::Lookup => ask_lookup(rt, console, given),
+        Command::Ask => ask_ask(rt, console, given),
+        Command::Why => ask_why(rt, console, given),
+        Command::Caller => ask_caller(rt, console, given),
+        Command::Trace => ask_trace(rt, console, given),
+        Command::Help => answer_help(rt, console, given),
+        Command::Version => answer_version(console, given),
+        Command::Unknown => complain_of_word(console, word),
     }
 }
 
 // Whether the one argument of a command asks for help.
-fn is_help_asked(given: usize) -> bool {
+fn is_help_asked(rt: &impl Env, given: usize) -> bool {
     if given != 1 {
         return false;
     }
-    if is_argument(2, b"--help") {
+    if is_argument(rt, 2, b"--help") {
         return true;
     }
-    is_argument(2, b"-h")
+    is_argument(rt, 2, b"-h")
 }
 
-fn run_or_help(word: &[u8], given: usize) {
-    if is_help_asked(given) {
-        show_help_of(word);
+fn run_or_help(rt: &(impl Env + Files + Input), console: &Console, word: &[u8], given: usize) {
+    if is_help_asked(rt, given) {
+        show_help_of(console, word);
         return;
     }
-    run(word, given);
+    run(rt, console, word, given);
 }
 
 // With the program's name and at least one argument.
-fn run_first(count: usize) {
+fn run_first(rt: &(impl Env + Files + Input), console: &Console, count: usize) {
     if count < 2 {
-        complain(b"sframe: no command; 'sframe help' lists them\n");
+        complain(console, b"sframe: no command; 'sframe help' lists them\n");
         return;
     }
-    let mut word = io::buffer();
-    let n = os::arg(1, &mut word);
-    if os::errno() != 0 {
-        complain_of_word(&word);
+    let mut word = [0u8; ARGUMENT];
+    let Ok(n) = rt.arg(1, &mut word) else {
+        complain_of_word(console, &word);
         return;
-    }
-    run_or_help(&word[..n], count - 2);
+    };
+    run_or_help(rt, console, &word[..n], count - 2);
 }
 
-fn main() {
-    if is_output_open() {
-        run_first(argument_count());
+fn main(rt: HostRuntime) {
+    let console = Console::new(rt.stdout(), rt.stderr());
+    if is_output_open(&console) {
+        run_first(&rt, &console, argument_count(&rt));
     } else {
-        complain(b"sframe: standard output is closed\n");
+        complain(&console, b"sframe: standard output is closed\n");
     }
-    tell_end();
+    tell_end(&rt, &console);
 }

@@ -1,9 +1,12 @@
 // How much of a file can be read. The room for it lies on this program's stack, which the system limits; so there are rooms of four
 // sizes, and what the limit leaves tells which of them can be had.
-ghost use Rattle.io.specs.Counts.{IsPrefixLen};
+ghost use Rattle.std.specs.Prelude.{◌≡◌, ◌≤◌, length, take};
 
+use crate::arguments::open_read;
 use crate::text::{Found, behind};
 use digits::{Parsed, parse_decimal};
+use std::io::Read;
+use std::rt::Files;
 
 // What this program takes beside its rooms, with the smallest room for a stack window.
 const OWN: u64 = 262_144;
@@ -11,6 +14,9 @@ const OWN: u64 = 262_144;
 const USUAL_LIMIT: u64 = 8_388_608;
 
 const USUAL_USE: u64 = 2_097_152;
+
+// How much of a file of the system's is looked at.
+const FIRST: usize = 4_096;
 
 // How much of a file each room holds, the smallest first. It has a byte more, by which a longer file is told.
 const SMALLEST: usize = 65_536;
@@ -81,13 +87,11 @@ pub fn without(bytes: u64, taken: u64) -> u64 {
 
 // The first place where a text is found.
 fn find(text: &[u8], sought: &[u8]) -> Found {
-    let mut at = 0;
-    while at < text.len() {
+    for at in 0..text.len() {
         let found = behind(text, at, sought);
         if let Found::Behind(end) = found {
             return found;
         }
-        at = at + 1;
     }
     Found::Nowhere
 }
@@ -103,14 +107,12 @@ fn is_either(digit: bool, byte: u8) -> bool {
 
 // Where the digits end that begin at a place, or else the blanks.
 fn past(digit: bool, text: &[u8], from: usize) -> usize {
-    let mut at = from;
-    while at < text.len() {
+    for at in from..text.len() {
         if !is_either(digit, text[at]) {
             return at;
         }
-        at = at + 1;
     }
-    at
+    from.max(text.len())
 }
 
 // The decimal number behind a name in a text of the system's.
@@ -129,17 +131,33 @@ fn number_behind(text: &[u8], name: &[u8]) -> Parsed {
     parse_decimal(&text[first..last])
 }
 
-// The first bytes of a file of the system's; none where it cannot be read.
-fn read_first(path: &[u8], room: &mut [u8]) -> usize
-    ensures { IsPrefixLen result room.new }
+// Reads until the room is full, the file ends or a read fails, and answers how many bytes it put at the start of the room.
+fn read_full(file: &mut impl Read, room: &mut [u8]) -> usize
+    ensures within { result ≤ length room.new }
+    ensures prefix { length (take result room.new) ≡ result }
 {
-    let file = os::open_read(path);
-    if file < 0 {
-        return 0;
+    let mut done = 0;
+    for _ in 0..room.len() {
+        if room.len() <= done {
+            return done;
+        }
+        match file.read(&mut room[done..]) {
+            Err(_) | Ok(0) => return done,
+            Ok(more) => done = done + more,
+        }
     }
-    let n = io::read_full(file, room);
-    libc::close(file);
-    n
+    done
+}
+
+// The first bytes of a file of the system's; none where it cannot be read.
+fn read_first(rt: &impl Files, path: &[u8], room: &mut [u8]) -> usize
+    ensures within { result ≤ length room.new }
+    ensures prefix { length (take result room.new) ≡ result }
+{
+    match open_read(rt, path) {
+        Err(_) => 0,
+        Ok(mut file) => read_full(&mut file, room),
+    }
 }
 
 fn limit_in(text: &[u8]) -> u64 {
@@ -153,9 +171,9 @@ fn limit_in(text: &[u8]) -> u64 {
 }
 
 // How large the stack may become.
-pub fn stack_limit() -> u64 {
-    let mut room = io::buffer();
-    let n = read_first(b"/proc/self/limits", &mut room);
+pub fn stack_limit(rt: &impl Files) -> u64 {
+    let mut room = [0u8; FIRST];
+    let n = read_first(rt, b"/proc/self/limits", &mut room);
     limit_in(&room[..n])
 }
 
@@ -172,13 +190,13 @@ fn use_in(text: &[u8]) -> u64 {
 }
 
 // How large it is: the arguments and the environment lie there too.
-fn stack_use() -> u64 {
-    let mut room = io::buffer();
-    let n = read_first(b"/proc/self/status", &mut room);
+fn stack_use(rt: &impl Files) -> u64 {
+    let mut room = [0u8; FIRST];
+    let n = read_first(rt, b"/proc/self/status", &mut room);
     use_in(&room[..n])
 }
 
 // How many bytes of the stack are left for the rooms.
-pub fn left_for_rooms() -> u64 {
-    without(without(stack_limit(), stack_use()), OWN)
+pub fn left_for_rooms(rt: &impl Files) -> u64 {
+    without(without(stack_limit(rt), stack_use(rt)), OWN)
 }

@@ -1,89 +1,141 @@
 // Text and numbers on standard output, and on standard error what is wrong with a command line, or may help.
+use crate::console::Console;
 use crate::status::tell_wrong;
-use libc::{STDERR_FILENO, STDOUT_FILENO};
+use std::io::Write;
+use std::os::fd::AsFd;
+use std::{io, str};
 
-// Whether standard output is open, which it is not behind a write that failed.
-pub fn is_output_open() -> bool {
-    if libc::isatty(STDOUT_FILENO) != 0 {
-        return true;
+// The system's number for a descriptor that is closed, or not open for what is asked of it.
+const BAD_DESCRIPTOR: i32 = 9;
+
+// As much as an error says of itself.
+const MESSAGE: usize = 256;
+
+// Whether standard output is open, which it is not behind a write that failed. One that is open can be had a second time.
+pub fn is_output_open(console: &Console) -> bool {
+    if console.is_given_up() {
+        return false;
     }
-    os::errno() != libc::EBADF
+    match console.out.as_fd().try_clone_to_owned() {
+        Ok(_second) => true,
+        Err(error) => !is_bad_descriptor(error),
+    }
+}
+
+fn is_bad_descriptor(error: io::Error) -> bool {
+    match error.raw_os_error() {
+        Some(code) => code == BAD_DESCRIPTOR,
+        None => false,
+    }
 }
 
 // One that is open, but not for writing. Where it is closed, that was told before.
-fn close_unwritable() {
-    if is_output_open() {
-        note(b"sframe: standard output is not open for writing\n");
-        libc::close(STDOUT_FILENO);
-        tell_wrong();
+fn close_unwritable(console: &Console) {
+    if is_output_open(console) {
+        note(
+            console,
+            b"sframe: standard output is not open for writing\n",
+        );
+        console.give_up();
+        tell_wrong(console);
     }
 }
 
-// A write that failed is told once: standard output is closed with it, so that nothing stands behind a gap, and every later write
-// fails because it is closed.
-fn keep(written: bool) {
-    if written {
+// A write that failed is told once: standard output is given up with it, so that nothing stands behind a gap, and nothing more is
+// written.
+fn keep(console: &Console, written: io::Result<()>) {
+    let Err(error) = written else {
+        return;
+    };
+    if is_bad_descriptor(error) {
+        close_unwritable(console);
         return;
     }
-    if os::errno() == libc::EBADF {
-        close_unwritable();
-        return;
+    console.give_up();
+    complain_of_error(console, b"sframe: standard output", error);
+}
+
+pub fn say(console: &Console, text: &[u8]) {
+    if !console.is_given_up() {
+        keep(console, console.out.write_all(text));
     }
-    os::fail(b"sframe: standard output");
-    libc::close(STDOUT_FILENO);
-    tell_wrong();
 }
 
-pub fn say(text: &[u8]) {
-    keep(io::write_all(STDOUT_FILENO, text));
-}
-
-pub fn say_number(n: u64) {
-    keep(io::print_decimal(STDOUT_FILENO, n));
+pub fn say_number(console: &Console, n: u64) {
+    if !console.is_given_up() {
+        keep(console, print!(console.out; "{n}"));
+    }
 }
 
 // A word in 16 hexadecimal digits.
-pub fn say_word(word: u64) {
-    keep(io::print_hex(STDOUT_FILENO, word, 16));
+pub fn say_word(console: &Console, word: u64) {
+    if !console.is_given_up() {
+        keep(console, print!(console.out; "{word:016x}"));
+    }
 }
 
 // In hexadecimal, with no leading zeros.
-pub fn say_hex(n: u64) {
-    keep(io::print_hex(STDOUT_FILENO, n, 1));
+pub fn say_hex(console: &Console, n: u64) {
+    if !console.is_given_up() {
+        keep(console, print!(console.out; "{n:x}"));
+    }
 }
 
-// A part of a message on standard error. It leaves errno where it is written.
-pub fn note(text: &[u8]) {
-    io::write_all(STDERR_FILENO, text);
+// A part of a message on standard error. Where that cannot be written, there is nowhere to say so.
+pub fn note(console: &Console, text: &[u8]) {
+    let _ = console.err.write_all(text);
 }
 
-pub fn note_number(n: u64) {
-    io::print_decimal(STDERR_FILENO, n);
+pub fn note_number(console: &Console, n: u64) {
+    let _ = print!(console.err; "{n}");
 }
 
 // A byte of an argument: one that a terminal might obey is written as its number.
-fn note_byte(byte: u8) {
+fn note_byte(console: &Console, byte: u8) {
     match byte {
-        b'\\' => note(b"\\\\"),
-        b' '..=b'~' => note(&[byte]),
+        b'\\' => note(console, b"\\\\"),
+        b' '..=b'~' => note(console, &[byte]),
         _ => {
-            note(b"\\x");
-            io::print_hex(STDERR_FILENO, byte as u64, 2);
+            let _ = print!(console.err; "\\x{byte:02x}");
         }
     }
 }
 
 // An argument as it was given.
-pub fn note_argument(text: &[u8]) {
-    let mut i = 0;
-    while i < text.len() {
-        note_byte(text[i]);
-        i = i + 1;
+pub fn note_argument(console: &Console, text: &[u8]) {
+    for byte in text {
+        note_byte(console, *byte);
     }
 }
 
+// What the system says of an error, without the number that std puts behind it.
+fn note_error(console: &Console, error: io::Error) {
+    let mut room = [0u8; MESSAGE];
+    let mut rest: &mut [u8] = &mut room;
+    let _ = write!(rest, "{error}");
+    let end = MESSAGE.saturating_sub(rest.len());
+    let Some(said) = room.get(..end) else {
+        return;
+    };
+    let Ok(said) = str::from_utf8(said) else {
+        return;
+    };
+    match said.split_once(" (os error ") {
+        Some((message, _)) => note(console, message.as_bytes()),
+        None => note(console, said.as_bytes()),
+    }
+}
+
+// What failed, as the caller names it, and the error.
+pub fn complain_of_error(console: &Console, what: &[u8], error: io::Error) {
+    note(console, what);
+    note(console, b": ");
+    note_error(console, error);
+    complain(console, b"\n");
+}
+
 // The last part of a message about what is wrong, or all of it.
-pub fn complain(text: &[u8]) {
-    note(text);
-    tell_wrong();
+pub fn complain(console: &Console, text: &[u8]) {
+    note(console, text);
+    tell_wrong(console);
 }

@@ -1,38 +1,39 @@
 // Parts of sentences: text with a number behind it, in each of the forms that a number has.
+use crate::console::Console;
 use crate::say::{say, say_hex, say_number, say_word};
 use numbers::offset::Shift;
 
-pub fn say_with_number(text: &[u8], n: u64) {
-    say(text);
-    say_number(n);
+pub fn say_with_number(console: &Console, text: &[u8], n: u64) {
+    say(console, text);
+    say_number(console, n);
 }
 
-pub fn say_with_word(text: &[u8], word: u64) {
-    say(text);
-    say_word(word);
+pub fn say_with_word(console: &Console, text: &[u8], word: u64) {
+    say(console, text);
+    say_word(console, word);
 }
 
 // A number of bytes, with an s where there is not one of them.
-pub fn say_with_bytes(text: &[u8], n: u64) {
-    say_with_number(text, n);
+pub fn say_with_bytes(console: &Console, text: &[u8], n: u64) {
+    say_with_number(console, text, n);
     if n == 1 {
-        say(b" byte");
+        say(console, b" byte");
         return;
     }
-    say(b" bytes");
+    say(console, b" bytes");
 }
 
 // In hexadecimal, with no leading zeros.
-fn say_with_hex(text: &[u8], n: u64) {
-    say(text);
-    say_hex(n);
+fn say_with_hex(console: &Console, text: &[u8], n: u64) {
+    say(console, text);
+    say_hex(console, n);
 }
 
 // How far it is and in which direction, in hexadecimal, and 0 as +0x0.
-pub fn say_with_distance(text: &[u8], distance: Shift) {
-    say(text);
+pub fn say_with_distance(console: &Console, text: &[u8], distance: Shift) {
+    say(console, text);
     match distance {
-        Shift::Up(by) => say_with_hex(b"+0x", by),
-        Shift::Down(by) => say_with_hex(b"-0x", by),
+        Shift::Up(by) => say_with_hex(console, b"+0x", by),
+        Shift::Down(by) => say_with_hex(console, b"-0x", by),
     }
 }

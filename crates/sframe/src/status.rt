@@ -1,48 +1,88 @@
 // What a run comes to, for the command `sframe`, which starts this program: it listens on a descriptor of its own, and says so by a
-// last argument. What is refused or wrong says its digit when it is met, and the end of the run a 0: the highest digit counts.
+// last argument. At its end the run says a 1 there where something is refused, a 2 where something is wrong, and behind it a 0: the
+// highest digit counts.
+ghost use Rattle.std.specs.Prelude.{◌≤◌, length};
+
+use crate::console::{Console, Status};
 use crate::text::is_same;
+use std::env::FillError;
+use std::fs::OpenOptions;
+use std::io::Write;
+use std::rt::{Env, Files};
 
 // The descriptor, which the last argument names.
-const STATUS_FILENO: i32 = 9;
+const STATUS_FILE: &str = "/dev/fd/9";
 
-fn is_heard() -> bool {
-    let count = os::arg_count();
+// The most bytes of an argument that are looked at.
+pub const ARGUMENT: usize = 4096;
+
+// Puts argument i at the start of a text, and answers how many bytes it has: 0 where it is missing, or longer than the text.
+pub fn put_argument(rt: &impl Env, i: usize, text: &mut [u8]) -> usize
+    ensures { result ≤ length text.new }
+{
+    match rt.arg(i, text) {
+        Ok(n) => n,
+        Err(_) => 0,
+    }
+}
+
+// How many arguments there are, with the program's name.
+fn all_arguments(rt: &impl Env) -> usize {
+    let mut first = [0u8; 1];
+    for i in 0..usize::MAX {
+        if let Err(FillError::NotPresent) = rt.arg(i, &mut first) {
+            return i;
+        }
+    }
+    usize::MAX
+}
+
+fn is_heard(rt: &impl Env) -> bool {
+    let count = all_arguments(rt);
     if count < 2 {
         return false;
     }
-    let mut last = io::buffer();
-    let n = os::arg(count - 1, &mut last);
+    let mut last = [0u8; ARGUMENT];
+    let n = put_argument(rt, count - 1, &mut last);
     is_same(&last[..n], b"status-on-9")
 }
 
-fn tell(digit: &[u8]) {
-    if is_heard() {
-        io::write_all(STATUS_FILENO, digit);
+// Where nobody listens to what is written, there is nowhere to say so.
+fn tell(rt: &(impl Env + Files), digit: &[u8]) {
+    if is_heard(rt) {
+        if let Ok(mut file) = OpenOptions::new().append(true).open(rt, STATUS_FILE) {
+            let _ = file.write_all(digit);
+        }
     }
 }
 
 // The run came to its end.
-pub fn tell_end() {
-    tell(b"0");
+pub fn tell_end(rt: &(impl Env + Files), console: &Console) {
+    match console.status() {
+        Status::Given => {}
+        Status::Refused => tell(rt, b"1"),
+        Status::Wrong => tell(rt, b"2"),
+    }
+    tell(rt, b"0");
 }
 
 // What was asked for is refused.
-pub fn tell_refused() {
-    tell(b"1");
+pub fn tell_refused(console: &Console) {
+    console.raise(Status::Refused);
 }
 
 // The command line is wrong, or a file cannot be read, or the answer cannot be written.
-pub fn tell_wrong() {
-    tell(b"2");
+pub fn tell_wrong(console: &Console) {
+    console.raise(Status::Wrong);
 }
 
 // How many arguments a person gave, with the program's name.
-pub fn argument_count() -> usize {
-    let count = os::arg_count();
+pub fn argument_count(rt: &impl Env) -> usize {
+    let count = all_arguments(rt);
     if count < 1 {
         return 0;
     }
-    if is_heard() {
+    if is_heard(rt) {
         return count - 1;
     }
     count

@@ -2,17 +2,7 @@
 
 // Whether two are the same.
 pub fn is_same(a: &[u8], b: &[u8]) -> bool {
-    if a.len() != b.len() {
-        return false;
-    }
-    let mut i = 0;
-    while i < a.len() {
-        if a[i] != b[i] {
-            return false;
-        }
-        i = i + 1;
-    }
-    true
+    a == b
 }
 
 // Where a text ends that is found in another.

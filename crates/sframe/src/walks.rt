@@ -2,8 +2,10 @@
 ghost use Rattle.std.specs.Prelude.{◌≤◌, length};
 
 use crate::arguments::{
-    Loaded, Opened, complain_of_length, count_given, is_input, number_given, open_given, read_given,
+    Loaded, Opened, Source, complain_of_length, count_given, is_input, number_given, open_given,
+    read_given,
 };
+use crate::console::Console;
 use crate::rooms::{Largest, large_room, largest_room, largest_within, small_room, smallest_room};
 use crate::say::complain;
 use crate::sections::Turn;
@@ -11,6 +13,7 @@ use crate::show_step_why::show_step_why;
 use crate::show_walks::{show_limit, show_step, show_trace};
 use caller::registers::{Process, Registers};
 use digits::Parsed;
+use std::rt::{Env, Files};
 use trace::walk::trace;
 
 // Three words for each of 256 frames.
@@ -35,20 +38,20 @@ enum Start {
 }
 
 // Arguments 5 to 9.
-fn start_given() -> Start {
-    let Parsed::Number(stack) = number_given(5, b"STACK_ADDRESS") else {
+fn start_given(rt: &impl Env, console: &Console) -> Start {
+    let Parsed::Number(stack) = number_given(rt, console, 5, b"STACK_ADDRESS") else {
         return Start::Wrong;
     };
-    let Parsed::Number(pc) = number_given(6, b"PC") else {
+    let Parsed::Number(pc) = number_given(rt, console, 6, b"PC") else {
         return Start::Wrong;
     };
-    let Parsed::Number(sp) = number_given(7, b"SP") else {
+    let Parsed::Number(sp) = number_given(rt, console, 7, b"SP") else {
         return Start::Wrong;
     };
-    let Parsed::Number(fp) = number_given(8, b"FP") else {
+    let Parsed::Number(fp) = number_given(rt, console, 8, b"FP") else {
         return Start::Wrong;
     };
-    let Parsed::Number(lr) = number_given(9, b"LR") else {
+    let Parsed::Number(lr) = number_given(rt, console, 9, b"LR") else {
         return Start::Wrong;
     };
     Start::From {
@@ -64,23 +67,32 @@ fn start_given() -> Start {
 }
 
 // MASK, or 0 where it is left out.
-fn mask_given(given: usize) -> Parsed {
+fn mask_given(rt: &impl Env, console: &Console, given: usize) -> Parsed {
     if given < WITH_MASK {
         return Parsed::Number(0);
     }
-    number_given(11, b"MASK")
+    number_given(rt, console, 11, b"MASK")
 }
 
 // The caller, or why it is that.
-fn answer_step(why: bool, section: &[u8], stack: &[u8], process: Process, registers: Registers) {
+fn answer_step(
+    console: &Console,
+    why: bool,
+    section: &[u8],
+    stack: &[u8],
+    process: Process,
+    registers: Registers,
+) {
     if why {
-        show_step_why(section, stack, process, registers);
+        show_step_why(console, section, stack, process, registers);
         return;
     }
-    show_step(section, registers.step(section, stack, process));
+    show_step(console, section, registers.step(section, stack, process));
 }
 
 fn answer_caller(
+    rt: &impl Env,
+    console: &Console,
     why: bool,
     section: &[u8],
     stack: &[u8],
@@ -88,17 +100,17 @@ fn answer_caller(
     registers: Registers,
     given: usize,
 ) {
-    let Parsed::Number(first) = number_given(10, b"FIRST") else {
+    let Parsed::Number(first) = number_given(rt, console, 10, b"FIRST") else {
         return;
     };
-    let Parsed::Number(mask) = mask_given(given) else {
+    let Parsed::Number(mask) = mask_given(rt, console, given) else {
         return;
     };
     let mut masked = process;
     masked.mask = mask;
     let mut marked = registers;
     marked.first = first;
-    answer_step(why, section, stack, masked, marked);
+    answer_step(console, why, section, stack, masked, marked);
 }
 
 fn words_room() -> [u64; WORDS] {
@@ -116,6 +128,7 @@ fn written_in(buffer: &[u64], frames: u64) -> usize
 }
 
 fn trace_into(
+    console: &Console,
     section: &[u8],
     stack: &[u8],
     process: Process,
@@ -125,31 +138,49 @@ fn trace_into(
 ) {
     let traced = trace(section, stack, process, registers, limit, buffer);
     let written = written_in(buffer, traced.frames);
-    show_trace(section, registers, traced, &buffer[..written]);
+    show_trace(console, section, registers, traced, &buffer[..written]);
 }
 
 fn answer_trace(
+    rt: &impl Env,
+    console: &Console,
     section: &[u8],
     stack: &[u8],
     process: Process,
     registers: Registers,
     given: usize,
 ) {
-    let Parsed::Number(limit) = count_given(10, b"LIMIT") else {
+    let Parsed::Number(limit) = count_given(rt, console, 10, b"LIMIT") else {
         return;
     };
-    let Parsed::Number(mask) = mask_given(given) else {
+    let Parsed::Number(mask) = mask_given(rt, console, given) else {
         return;
     };
     let mut masked = process;
     masked.mask = mask;
     let mut buffer = words_room();
-    trace_into(section, stack, masked, registers, limit, &mut buffer);
-    show_limit(limit);
+    trace_into(
+        console,
+        section,
+        stack,
+        masked,
+        registers,
+        limit,
+        &mut buffer,
+    );
+    show_limit(console, limit);
 }
 
-fn answer_from(sought: Sought, section: &[u8], address: u64, stack: &[u8], given: usize) {
-    match start_given() {
+fn answer_from(
+    rt: &impl Env,
+    console: &Console,
+    sought: Sought,
+    section: &[u8],
+    address: u64,
+    stack: &[u8],
+    given: usize,
+) {
+    match start_given(rt, console) {
         Start::Wrong => {}
         Start::From {
             registers,
@@ -161,56 +192,106 @@ fn answer_from(sought: Sought, section: &[u8], address: u64, stack: &[u8], given
                 mask: 0,
             };
             match sought {
-                Sought::Caller => answer_caller(false, section, stack, process, registers, given),
-                Sought::Why => answer_caller(true, section, stack, process, registers, given),
-                Sought::Trace => answer_trace(section, stack, process, registers, given),
+                Sought::Caller => answer_caller(
+                    rt, console, false, section, stack, process, registers, given,
+                ),
+                Sought::Why => answer_caller(
+                    rt, console, true, section, stack, process, registers, given,
+                ),
+                Sought::Trace => answer_trace(
+                    rt, console, section, stack, process, registers, given,
+                ),
             }
         }
     }
 }
 
-fn walk_in(
-    file: i32,
+fn walk_in<R: Env + Files + Input>(
+    rt: &R,
+    console: &Console,
+    file: &mut Source<R::File>,
     sought: Sought,
     section: &[u8],
     address: u64,
     given: usize,
     room: &mut [u8],
 ) -> Turn {
-    match read_given(4, file, room) {
+    match read_given(rt, console, 4, file, room) {
         Loaded::Failed => Turn::Done,
         Loaded::Long => Turn::Long,
         Loaded::Bytes(n) => {
-            answer_from(sought, section, address, &room[..n], given);
+            answer_from(rt, console, sought, section, address, &room[..n], given);
             Turn::Done
         }
     }
 }
 
-fn walk_in_smallest(file: i32, sought: Sought, section: &[u8], address: u64, given: usize) -> Turn {
+fn walk_in_smallest<R: Env + Files + Input>(
+    rt: &R,
+    console: &Console,
+    file: &mut Source<R::File>,
+    sought: Sought,
+    section: &[u8],
+    address: u64,
+    given: usize,
+) -> Turn {
     let mut room = smallest_room();
-    walk_in(file, sought, section, address, given, &mut room)
+    walk_in(
+        rt, console, file, sought, section, address, given, &mut room,
+    )
 }
 
-fn walk_in_small(file: i32, sought: Sought, section: &[u8], address: u64, given: usize) -> Turn {
+fn walk_in_small<R: Env + Files + Input>(
+    rt: &R,
+    console: &Console,
+    file: &mut Source<R::File>,
+    sought: Sought,
+    section: &[u8],
+    address: u64,
+    given: usize,
+) -> Turn {
     let mut room = small_room();
-    walk_in(file, sought, section, address, given, &mut room)
+    walk_in(
+        rt, console, file, sought, section, address, given, &mut room,
+    )
 }
 
-fn walk_in_large(file: i32, sought: Sought, section: &[u8], address: u64, given: usize) -> Turn {
+fn walk_in_large<R: Env + Files + Input>(
+    rt: &R,
+    console: &Console,
+    file: &mut Source<R::File>,
+    sought: Sought,
+    section: &[u8],
+    address: u64,
+    given: usize,
+) -> Turn {
     let mut room = large_room();
-    walk_in(file, sought, section, address, given, &mut room)
+    walk_in(
+        rt, console, file, sought, section, address, given, &mut room,
+    )
 }
 
-fn walk_in_largest(file: i32, sought: Sought, section: &[u8], address: u64, given: usize) -> Turn {
+fn walk_in_largest<R: Env + Files + Input>(
+    rt: &R,
+    console: &Console,
+    file: &mut Source<R::File>,
+    sought: Sought,
+    section: &[u8],
+    address: u64,
+    given: usize,
+) -> Turn {
     let mut room = largest_room();
-    walk_in(file, sought, section, address, given, &mut room)
+    walk_in(
+        rt, console, file, sought, section, address, given, &mut room,
+    )
 }
 
 // As `ask_up_to` of sections, for the file of the stack window.
-fn walk_up_to(
+fn walk_up_to<R: Env + Files + Input>(
+    rt: &R,
+    console: &Console,
     room: usize,
-    file: i32,
+    file: &mut Source<R::File>,
     once: bool,
     sought: Sought,
     section: &[u8],
@@ -219,17 +300,27 @@ fn walk_up_to(
 ) -> Turn {
     if 0 < room {
         if !once {
-            let smaller = walk_up_to(room - 1, file, once, sought, section, address, given);
+            let smaller = walk_up_to(
+                rt,
+                console,
+                room - 1,
+                file,
+                once,
+                sought,
+                section,
+                address,
+                given,
+            );
             if let Turn::Done = smaller {
                 return smaller;
             }
         }
     }
     match room {
-        0 => walk_in_smallest(file, sought, section, address, given),
-        1 => walk_in_small(file, sought, section, address, given),
-        2 => walk_in_large(file, sought, section, address, given),
-        _ => walk_in_largest(file, sought, section, address, given),
+        0 => walk_in_smallest(rt, console, file, sought, section, address, given),
+        1 => walk_in_small(rt, console, file, sought, section, address, given),
+        2 => walk_in_large(rt, console, file, sought, section, address, given),
+        _ => walk_in_largest(rt, console, file, sought, section, address, given),
     }
 }
 
@@ -241,10 +332,13 @@ fn room_within(left: u64) -> usize {
     }
 }
 
-fn is_one_input() -> bool {
-    if is_input(2) {
-        if is_input(4) {
-            complain(b"sframe: FILE and STACK cannot both be standard input\n");
+fn is_one_input(rt: &impl Env, console: &Console) -> bool {
+    if is_input(rt, 2) {
+        if is_input(rt, 4) {
+            complain(
+                console,
+                b"sframe: FILE and STACK cannot both be standard input\n",
+            );
             return false;
         }
     }
@@ -252,23 +346,49 @@ fn is_one_input() -> bool {
 }
 
 // In this room, or a smaller one.
-fn walk_opened(sought: Sought, section: &[u8], address: u64, given: usize, room: usize) {
-    match open_given(4, b"sframe: STACK") {
+fn walk_opened(
+    rt: &(impl Env + Files + Input),
+    console: &Console,
+    sought: Sought,
+    section: &[u8],
+    address: u64,
+    given: usize,
+    room: usize,
+) {
+    match open_given(rt, console, 4, b"sframe: STACK") {
         Opened::Failed => {}
         Opened::File { file, once } => {
-            if let Turn::Long = walk_up_to(room, file, once, sought, section, address, given) {
-                complain_of_length(4, room);
+            let mut file = file;
+            if let Turn::Long = walk_up_to(
+                rt, console, room, &mut file, once, sought, section, address, given,
+            ) {
+                complain_of_length(rt, console, 4, room);
             }
         }
     }
 }
 
 // With so much of the stack left for the room of the window.
-pub fn answer_walk(sought: Sought, section: &[u8], given: usize, left: u64) {
-    let Parsed::Number(address) = number_given(3, b"ADDRESS") else {
+pub fn answer_walk(
+    rt: &(impl Env + Files + Input),
+    console: &Console,
+    sought: Sought,
+    section: &[u8],
+    given: usize,
+    left: u64,
+) {
+    let Parsed::Number(address) = number_given(rt, console, 3, b"ADDRESS") else {
         return;
     };
-    if is_one_input() {
-        walk_opened(sought, section, address, given, room_within(left));
+    if is_one_input(rt, console) {
+        walk_opened(
+            rt,
+            console,
+            sought,
+            section,
+            address,
+            given,
+            room_within(left),
+        );
     }
 }
