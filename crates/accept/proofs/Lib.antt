@@ -7,6 +7,7 @@ mod Examples
 pub mod FaultLaws
 pub mod HeaderLaws
 pub mod InOrder
+pub mod Linked
 pub mod RowLaws
 pub mod RuleLaws
 pub mod SignedTests

@@ -4,6 +4,7 @@ pub mod CaseLaws
 pub mod ComparedLaws
 pub mod Exactly
 mod Examples
+pub mod Linked
 pub mod ReadLaws
 pub mod SoughtLaws
 pub mod WalkLaws

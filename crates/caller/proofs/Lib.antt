@@ -2,6 +2,7 @@ pub mod Asked
 pub mod Exactly
 mod Examples
 pub mod FindingLaws
+pub mod Linked
 pub mod LookedUpLaws
 pub mod MachineLaws
 pub mod NumberLaws

@@ -7,6 +7,7 @@ pub mod GatherLaws
 pub mod Holds
 pub mod Implies
 pub mod KeyLaws
+pub mod Linked
 pub mod NearestLaws
 pub mod PlaceLaws
 pub mod RowLaws

@@ -2,6 +2,7 @@ pub mod AfterLaws
 pub mod FunctionLaws
 pub mod LineLaws
 pub mod LinesLeft
+pub mod Linked
 pub mod ListingLaws
 pub mod PlaceLaws
 pub mod ReadBack

@@ -9,6 +9,7 @@ pub mod HalvingTurns
 pub mod HeldTests
 pub mod LandedLaws
 pub mod LastRowLaws
+pub mod Linked
 pub mod LookLaws
 pub mod NumberLaws
 pub mod OffsetWithinLaws

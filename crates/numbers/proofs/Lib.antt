@@ -4,4 +4,5 @@ pub mod DiffLaws
 mod Examples
 pub mod FieldLaws
 pub mod HeldLaws
+pub mod Linked
 pub mod SignedLaws

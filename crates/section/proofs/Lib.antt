@@ -1,4 +1,5 @@
 pub mod AreaLaws
+pub mod Linked
 pub mod ListedLaws
 pub mod OffsetLaws
 pub mod PartAgreement

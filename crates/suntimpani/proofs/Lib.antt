@@ -1,2 +1,3 @@
 pub mod AskLossless
+pub mod Linked
 pub mod Lossless

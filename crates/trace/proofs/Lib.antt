@@ -5,6 +5,7 @@ pub mod DoorLaws
 pub mod Exactly
 mod Examples
 pub mod GoingLaws
+pub mod Linked
 pub mod NumberLaws
 pub mod Signed
 pub mod TraceLaws
