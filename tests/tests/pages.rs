@@ -80,12 +80,15 @@ fn cited_in(line: &str) -> Vec<Cited> {
     cited
 }
 
-/// Whether a text of antt declares a name: a signature, a record, a data type or a field.
+/// Whether a text of antt declares a name: a signature, a record, a data type or a field. A name with a parenthesis behind
+/// it that no mark stands before, and no colon behind, is a call that begins its line.
 fn declares(text: &str, name: &str) -> bool {
     text.lines().any(|line| {
         let marks = ["unfoldable", "abbrev", "pub", "record", "data"];
+        let is_marked = line.split_whitespace().next().is_some_and(|first| marks.contains(&first));
         let mut words = line.split_whitespace().skip_while(|word| marks.contains(word));
-        words.next() == Some(name) && words.next().is_some_and(|next| next == ":" || next.starts_with('('))
+        let is_declared = |next: &str| next == ":" || next.starts_with('(') && (is_marked || line.contains(" : "));
+        words.next() == Some(name) && words.next().is_some_and(is_declared)
     })
 }
 

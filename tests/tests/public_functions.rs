@@ -17,11 +17,13 @@ struct Found {
     requires: bool,
 }
 
-/// The same, with the names under which are cited what the toolchain makes of its contract, and the contract itself.
+/// The same, with the names under which are cited what the toolchain makes of its contract, and the contract itself; and
+/// of a function with a reference inside a struct the name that specs/ReaderSays.antt gives to its clauses.
 struct Function {
     name: String,
     cited: String,
     contract: String,
+    clauses: Option<String>,
     requires: bool,
 }
 
@@ -152,12 +154,8 @@ fn functions_of(library: &str, sources: &[Source]) -> Vec<Function> {
             let path: Vec<&str> = parts.into_iter().filter(|part| !part.is_empty()).collect();
             let path = path.join(".");
             let cited = format!("Rattle.{library}.proofs.{path}");
-            functions.push(Function {
-                contract: format!("Rattle.{library}.specs.contracts.{path}"),
-                cited,
-                name,
-                requires,
-            });
+            let contract = format!("Rattle.{library}.specs.contracts.{path}");
+            functions.push(Function { contract, cited, clauses: None, name, requires });
         }
     }
     functions
@@ -192,9 +190,22 @@ impl Proofs {
         self.lines.iter().any(|other| other == line)
     }
 
-    /// Whether an alias here is a function's own contract, or what is made of it.
-    fn names(&self, function: &Function, alias: &str) -> bool {
-        [&function.cited, &function.contract].iter().any(|cited| self.uses(&format!("use {cited} as {alias}")))
+    /// Whether a name is used here from a module of `promises`.
+    fn uses_of(&self, module: &str, name: &str) -> bool {
+        let head = format!("use Rattle.promises.specs.{module}.{{");
+        let names = self.lines.iter().filter_map(|line| line.strip_prefix(&head)?.strip_suffix('}'));
+        names.flat_map(|names| names.split(", ")).any(|other| other == name)
+    }
+
+    /// The name that is given here to a function's own clauses, if one is.
+    fn clauses_of(&self, function: &Function) -> Option<String> {
+        let Function { name, contract, .. } = function;
+        let given = format!(" 𝓤 𝓛 = {name}.clauses 𝓛");
+        let clauses = self.lines.iter().find_map(|line| line.strip_suffix(&given))?;
+        let of_function = self.uses(&format!("use {contract} as {name}"))
+            && self.uses(&format!("abbrev pub {clauses} : Stated {name}.ended"))
+            && self.uses_of("ByClauses", "Stated");
+        of_function.then(|| clauses.to_string())
     }
 
     /// What a public theorem states, if it is here: all up to its proof, which begins with its name, or with what it
@@ -229,10 +240,13 @@ fn says_determined(proofs: &Proofs, function: &Function) -> bool {
 
 /// The same of a function with a reference inside a struct, of whose contract the toolchain makes the clauses alone.
 fn says_determined_by_clauses(proofs: &Proofs, function: &Function) -> bool {
-    let name = &function.name;
-    proofs.stated(&format!("{name}_determined")) == Some(&format!("DeterminedBy {name}.ended {name}.clauses"))
-        && proofs.uses("use Rattle.promises.specs.ByClauses.{DeterminedBy}")
-        && proofs.names(function, name)
+    let Function { name, contract, clauses, .. } = function;
+    clauses.as_ref().is_some_and(|clauses| {
+        proofs.stated(&format!("{name}_determined")) == Some(&format!("DeterminedBy {name}.ended {clauses}"))
+            && proofs.uses_of("ByClauses", "DeterminedBy")
+            && proofs.uses_of("ReaderSays", clauses)
+            && proofs.uses(&format!("use {contract} as {name}"))
+    })
 }
 
 /// Whether a file says of what a function asks, and of no other, that it can be met.
@@ -244,16 +258,25 @@ fn says_met(proofs: &Proofs, function: &Function) -> bool {
         && proofs.uses(&format!("use {cited}.Reads as {name}-reads"))
 }
 
-/// Whether a file says that the code of a function returns, of that function's own contract and routine, which it cites
-/// under an alias.
+/// Whether a file says that the code of a function returns, of that function's own contract and name, in every environment
+/// of the machine that is wired for its code. The file cites the function under an alias.
 fn says_returns(proofs: &Proofs, function: &Function, said: &Returned) -> bool {
     let Returned { theorem, alias: of } = said;
-    let by_kinds = format!("Returns {of}.Kinds.ps {of}.Kinds.r {of}.Reads.Learnt {of}.Symbol.routine");
-    let by_clauses = format!("ReturnsBy {of}.ended {of}.clauses {of}.Symbol.routine");
-    let states = |statement: &str, from: &str| proofs.stated(theorem) == Some(statement) && proofs.uses(from);
-    (states(&by_kinds, "use Rattle.promises.specs.Returns.{Returns}")
-        || states(&by_clauses, "use Rattle.promises.specs.ByClauses.{ReturnsBy}"))
-        && proofs.names(function, of)
+    let Function { cited, contract, clauses, .. } = function;
+    let wired = |stated: &str| format!("(γ : Env) → Wired γ {of}.Symbol.code → {stated} (γ {of}.Symbol.name)");
+    let states = |stated: &str| proofs.stated(theorem) == Some(&wired(stated));
+    let by_kinds = proofs.uses_of("Returns", "Returns")
+        && states(&format!("Returns {of}.Kinds.ps {of}.Kinds.r {of}.Reads.Learnt"));
+    let by_clauses = clauses.as_ref().is_some_and(|clauses| {
+        proofs.uses_of("ByClauses", "ReturnsBy")
+            && proofs.uses_of("ReaderSays", clauses)
+            && proofs.uses(&format!("use {contract} as {of}-contract"))
+            && states(&format!("ReturnsBy {of}-contract.ended {clauses}"))
+    });
+    (by_kinds || by_clauses)
+        && proofs.uses("use prog.Routine.{Env}")
+        && proofs.uses("use prog.Wired.{Wired}")
+        && proofs.uses(&format!("use {cited} as {of}"))
 }
 
 /// The calls that people make: those that are exported, those that say why, and the readers of rows and lines.
@@ -475,6 +498,10 @@ fn of_libraries() -> Vec<Function> {
         let name = library.file_name().and_then(|name| name.to_str()).expect("a name");
         functions.extend(functions_of(name, &sources_in(&library.join("src"), "")));
     }
+    let named = Proofs::of(&text_of(&in_repository("crates/promises/specs/ReaderSays.antt")));
+    for function in &mut functions {
+        function.clauses = named.clauses_of(function);
+    }
     functions
 }
 
@@ -686,6 +713,53 @@ fn a_statement_about_another_contract_is_found() {
     // What a function owes is not what a caller may rely on.
     assert_eq!(faults_after("get-reads.Learnt", "get-reads.Post"), [UNDETERMINED]);
     assert_eq!(faults_after("get-reads.Asked", "put-reads.Asked"), [UNMET]);
+}
+
+const CLAUSES: &str = "
+use Rattle.low.specs.contracts.reader.next as next
+use Rattle.promises.specs.ByClauses.{Stated, Plainly}
+abbrev pub turn_clauses : Stated next.ended
+turn_clauses 𝓤 𝓛 = next.clauses 𝓛
+";
+const BY_CLAUSES: &str = "
+use prog.Routine.{Env}
+use prog.Wired.{Wired}
+use Rattle.low.proofs.reader.next as called
+use Rattle.low.specs.contracts.reader.next as next
+use Rattle.low.specs.contracts.reader.next as called-contract
+use Rattle.promises.specs.ByClauses.{DeterminedBy, ReturnsBy}
+use Rattle.promises.specs.ReaderSays.{turn_clauses, turn_says}
+
+pub next_determined : DeterminedBy next.ended turn_clauses
+next_determined = it
+
+pub next_returns : (γ : Env) → Wired γ called.Symbol.code → ReturnsBy called-contract.ended turn_clauses (γ called.Symbol.name)
+next_returns γ wired = it
+";
+
+/// Whether these say, after a change of a part of them, that a function of a reader determines its reply, and that it
+/// returns.
+fn said_by_clauses(part: &str, other: &str) -> (bool, bool) {
+    assert!([CLAUSES, BY_CLAUSES].iter().any(|text| text.contains(part)), "{part} is in neither text");
+    let source = Source { module: "reader".to_string(), text: "pub fn next() {}".to_string() };
+    let mut function = functions_of("low", &[source]).remove(0);
+    function.clauses = Proofs::of(&CLAUSES.replace(part, other)).clauses_of(&function);
+    let proofs = Proofs::of(&BY_CLAUSES.replace(part, other));
+    let said = Returned { theorem: "next_returns".to_string(), alias: "called".to_string() };
+    (says_determined(&proofs, &function), says_returns(&proofs, &function, &said))
+}
+
+#[test]
+fn what_is_said_by_clauses_is_of_the_function() {
+    assert_eq!(said_by_clauses("= it", "= other"), (true, true));
+    assert_eq!(said_by_clauses("= next.clauses 𝓛", "= other.clauses 𝓛"), (false, false));
+    assert_eq!(said_by_clauses("contracts.reader.next as next", "contracts.reader.other as next"), (false, false));
+    assert_eq!(said_by_clauses("ReaderSays.{turn_clauses, ", "ReaderSays.{"), (false, false));
+    assert_eq!(said_by_clauses("DeterminedBy next.ended turn", "DeterminedBy next.ended other"), (false, true));
+    assert_eq!(said_by_clauses("reader.next as called\n", "reader.other as called\n"), (true, false));
+    assert_eq!(said_by_clauses("reader.next as called-", "reader.other as called-"), (true, false));
+    assert_eq!(said_by_clauses("→ Wired γ called.Symbol.code →", "→ ⊥ →"), (true, false));
+    assert_eq!(said_by_clauses("(γ called.Symbol.name)", "(γ other.Symbol.name)"), (true, false));
 }
 
 #[test]
