@@ -67,12 +67,13 @@ fn parts(page: &str) -> Vec<&str> {
 }
 
 /// The file of definitions of ours that a line of antt uses, if it uses one: "use Rattle.low.specs.Field.{field_of}". What is
-/// declared in code has no file of definitions, and what is of `std` is the toolchain's.
+/// declared in code, or is the contract of a function there, has no file of definitions, and what is of `std` is the
+/// toolchain's.
 fn used_by(line: &str) -> Option<String> {
     let path = line.strip_prefix("use Rattle.")?;
     let (name, module) = path.split_once(".specs.")?;
     let module = module.split([' ', '{']).next()?.trim_end_matches('.');
-    (name != "std" && !module.starts_with("declared"))
+    (name != "std" && !module.starts_with("declared.") && !module.starts_with("contracts."))
         .then(|| format!("crates/{name}/specs/{}.antt", module.replace('.', "/")))
 }
 
@@ -164,6 +165,7 @@ fn a_list_is_read() {
     assert_eq!(of_second(PAGE, &["crates/low/specs/E.antt"]), [""; 0]);
     assert_eq!(used_by("use Rattle.low.specs.Inner.C.{c}").as_deref(), Some("crates/low/specs/Inner/C.antt"));
     assert_eq!(used_by("use Rattle.std.specs.Prelude.{length}"), None);
+    assert_eq!(used_by("use Rattle.low.specs.contracts.reader.next as next"), None);
 }
 
 #[test]
