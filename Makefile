@@ -34,8 +34,8 @@ FROM =
 TABLE =
 
 # What a crate is made of, with the crates that it knows: it is proved again only where one of these files is newer.
-crates_of = $(wildcard $(addprefix crates/,$(1) $(shell sed -n 's/^$(1)://p' crates.txt)))
-parts_of = crates.txt $(shell find $(crates_of) -name '*.rt' -o -name '*.antt') $(shell command -v rt)
+crates_of = $(wildcard $(addprefix crates/,$(1) $(shell sed -nE 's/^$(1)( staticlib)?://p' crates.txt)))
+parts_of = crates.txt $(shell find $(crates_of) -name out -prune -o '(' -name '*.rt' -o -name '*.antt' ')' -print) $(shell command -v rt)
 
 help:
 	@echo "make run        prove and build the program sframe, and ask it about a recorded crash"
@@ -48,7 +48,7 @@ help:
 	@echo "make install    put both, the header and a pkg-config file below PREFIX ($(PREFIX));"
 	@echo "                TARGET=..: that archive, below PREFIX/lib/TARGET, and no program"
 	@echo "make uninstall  take them away again; TARGET=..: that archive"
-	@echo "make clean      remove target/ and what cargo built"
+	@echo "make clean      remove target/, what the toolchain keeps in crates/*/out, and what cargo built"
 	@echo "make pc         print the pkg-config file"
 	@echo "make soak       compare the library with the reader for longer: N=$(N) sections, SEED=.. to repeat a run"
 	@echo "make bench      the library's time against the reader's, and its use of the stack; TABLE=rows, TABLE=frames, TABLE=ask or TABLE=why for a part"
@@ -68,14 +68,18 @@ test-aarch64: target/staticlib/libsuntimpani.a
 
 program: target/bin/sframe
 
-target/bin/sframe: $(call parts_of,sframe)
-	@tools/prove check sframe
+# Each program of the repository; beside sframe they are for the tests.
+PROGRAMS = $(patsubst crates/%/src/main.rt,%,$(wildcard crates/*/src/main.rt))
+
+.SECONDEXPANSION:
+$(PROGRAMS:%=target/bin/%): target/bin/%: $$(call parts_of,$$*)
+	@tools/prove program $*
 	@touch $@
 
 lib: $(archive) $(tested)
 
-target/staticlib/libsuntimpani.a: $(call parts_of,suntimpani)
-	@tools/prove staticlib suntimpani
+target/staticlib/libsuntimpani.a: $(call parts_of,suntimpani_c)
+	@tools/prove library suntimpani
 	@touch $@
 
 $(TARGETS:%=target/%/libsuntimpani.a): target/staticlib/libsuntimpani.a include/suntimpani.h $(wildcard targets/aarch64/*)
@@ -103,7 +107,7 @@ endif
 	done; rm -f "$(DESTDIR)$(PREFIX)/include/suntimpani.h"
 
 clean:
-	rm -rf target tests/target bindings/rust/target
+	rm -rf target tests/target bindings/rust/target crates/*/out
 
 pc:
 	@$(PC)
@@ -118,9 +122,9 @@ bench: $(archive)
 	@tests/aarch64/compare $(archive) stack
 else
 bench: lib program
-	@tools/prove staticlib measure
+	@tools/prove library measure
 	@$(call for_tests,measure)
-	@tools/prove staticlib measure_lines
+	@tools/prove library measure_lines
 	@$(call for_tests,measure_lines)
 	cd tests && cargo run --quiet --release --offline --locked --features library,measure --bin bench -- $(TABLE)
 endif
@@ -132,6 +136,6 @@ reader:
 	cd tests && cargo test --release --offline --locked
 
 fmt:
-	rt fmt
+	@for folder in crates/*/; do (cd "$$folder" && rt fmt) || exit; done
 	cd tests && cargo fmt
 	cd bindings/rust && cargo fmt

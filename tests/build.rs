@@ -21,7 +21,7 @@ fn link(feature: &str, folder: &Path, library: &str) {
     println!("cargo::rustc-link-lib=static={library}");
 }
 
-// By the machine that is compiled for: `rt staticlib` writes for x86-64, and targets/aarch64/archive for AArch64.
+// By the machine that is compiled for: tools/prove builds for x86-64, and targets/aarch64/archive for AArch64.
 fn usual_folder() -> PathBuf {
     let tests = env::var_os("CARGO_MANIFEST_DIR").expect("cargo names the package's folder");
     let machine = env::var("CARGO_CFG_TARGET_ARCH").expect("cargo names the machine");

@@ -117,7 +117,7 @@ pub fn run_in(folder: &Path, arguments: &[&str]) -> (String, String) {
 /// Where the program is not there.
 pub fn program(name: &str) -> Command {
     let program = in_repository("target/bin").join(name);
-    assert!(program.is_file(), "target/bin/{name} is not there: run 'rt check {name}'");
+    assert!(program.is_file(), "target/bin/{name} is not there: run 'make target/bin/{name}'");
     if cfg!(target_arch = "x86_64") {
         return Command::new(program);
     }

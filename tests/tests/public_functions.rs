@@ -1,6 +1,7 @@
 //! Holds what crates/promises states against the public functions of the libraries: each has a statement about its own
 //! contract, each that asks something of its callers is shown to ask for what can be, and docs/PROMISES.md says why it
-//! asks. What the prover cannot see is found here: a function that nothing is stated of.
+//! asks. What the prover cannot see is found here: a function that nothing is stated of. A static library has no function
+//! of its own: each is one of a library, says what that one says, and calls it.
 
 use std::fs;
 use std::path::{Path, PathBuf};
@@ -16,10 +17,13 @@ struct Found {
     requires: bool,
 }
 
-/// The same, with the name under which its contract is cited.
+/// The same, with the names under which are cited what the toolchain makes of its contract, and the contract itself; and
+/// of a function with a reference inside a struct the name that specs/ReaderSays.antt gives to its clauses.
 struct Function {
     name: String,
     cited: String,
+    contract: String,
+    clauses: Option<String>,
     requires: bool,
 }
 
@@ -148,7 +152,10 @@ fn functions_of(library: &str, sources: &[Source]) -> Vec<Function> {
             let module = &home.unwrap_or(source).module;
             let parts = [module.as_str(), owner.as_deref().unwrap_or(""), name.as_str()];
             let path: Vec<&str> = parts.into_iter().filter(|part| !part.is_empty()).collect();
-            functions.push(Function { cited: format!("Rattle·{library}.proofs.{}", path.join(".")), name, requires });
+            let path = path.join(".");
+            let cited = format!("Rattle.{library}.proofs.{path}");
+            let contract = format!("Rattle.{library}.specs.contracts.{path}");
+            functions.push(Function { contract, cited, clauses: None, name, requires });
         }
     }
     functions
@@ -183,6 +190,24 @@ impl Proofs {
         self.lines.iter().any(|other| other == line)
     }
 
+    /// Whether a name is used here from a module of `promises`.
+    fn uses_of(&self, module: &str, name: &str) -> bool {
+        let head = format!("use Rattle.promises.specs.{module}.{{");
+        let names = self.lines.iter().filter_map(|line| line.strip_prefix(&head)?.strip_suffix('}'));
+        names.flat_map(|names| names.split(", ")).any(|other| other == name)
+    }
+
+    /// The name that is given here to a function's own clauses, if one is.
+    fn clauses_of(&self, function: &Function) -> Option<String> {
+        let Function { name, contract, .. } = function;
+        let given = format!(" 𝓤 𝓛 = {name}.clauses 𝓛");
+        let clauses = self.lines.iter().find_map(|line| line.strip_suffix(&given))?;
+        let of_function = self.uses(&format!("use {contract} as {name}"))
+            && self.uses(&format!("abbrev pub {clauses} : Stated {name}.ended"))
+            && self.uses_of("ByClauses", "Stated");
+        of_function.then(|| clauses.to_string())
+    }
+
     /// What a public theorem states, if it is here: all up to its proof, which begins with its name, or with what it
     /// opens. It begins its line, since inside a module it would have the module's hypotheses.
     fn stated(&self, theorem: &str) -> Option<&str> {
@@ -206,8 +231,8 @@ impl Proofs {
 fn says_determined(proofs: &Proofs, function: &Function) -> bool {
     let Function { name, cited, .. } = function;
     let statement = format!("Determined {name}-kinds.ps {name}-kinds.r {name}-reads.Learnt");
-    let by_kinds = proofs.stated(&format!("{name}-determined")) == Some(&statement)
-        && proofs.uses("use Rattle·promises·specs.specs.Determined.{Determined}")
+    let by_kinds = proofs.stated(&format!("{name}_determined")) == Some(&statement)
+        && proofs.uses("use Rattle.promises.specs.Determined.{Determined}")
         && proofs.uses(&format!("use {cited}.Kinds as {name}-kinds"))
         && proofs.uses(&format!("use {cited}.Reads as {name}-reads"));
     by_kinds || says_determined_by_clauses(proofs, function)
@@ -215,10 +240,13 @@ fn says_determined(proofs: &Proofs, function: &Function) -> bool {
 
 /// The same of a function with a reference inside a struct, of whose contract the toolchain makes the clauses alone.
 fn says_determined_by_clauses(proofs: &Proofs, function: &Function) -> bool {
-    let Function { name, cited, .. } = function;
-    proofs.stated(&format!("{name}-determined")) == Some(&format!("DeterminedBy {name}.ended {name}.clauses"))
-        && proofs.uses("use Rattle·promises·specs.specs.ByClauses.{DeterminedBy}")
-        && proofs.uses(&format!("use {cited} as {name}"))
+    let Function { name, contract, clauses, .. } = function;
+    clauses.as_ref().is_some_and(|clauses| {
+        proofs.stated(&format!("{name}_determined")) == Some(&format!("DeterminedBy {name}.ended {clauses}"))
+            && proofs.uses_of("ByClauses", "DeterminedBy")
+            && proofs.uses_of("ReaderSays", clauses)
+            && proofs.uses(&format!("use {contract} as {name}"))
+    })
 }
 
 /// Whether a file says of what a function asks, and of no other, that it can be met.
@@ -226,19 +254,29 @@ fn says_met(proofs: &Proofs, function: &Function) -> bool {
     let Function { name, cited, .. } = function;
     let asked = format!("{name}-reads.Asked");
     let cites = |stated: &str| stated.split(' ').any(|word| word.trim_start_matches('(') == asked);
-    proofs.stated(&format!("{name}-met")).is_some_and(cites)
+    proofs.stated(&format!("{name}_met")).is_some_and(cites)
         && proofs.uses(&format!("use {cited}.Reads as {name}-reads"))
 }
 
-/// Whether a file says that the code of a function returns, of that function's own contract and routine.
-fn says_returns(proofs: &Proofs, function: &Function, theorem: &str) -> bool {
-    let of = theorem.trim_end_matches("-returns");
-    let by_kinds = format!("Returns {of}.Kinds.ps {of}.Kinds.r {of}.Reads.Learnt {of}.Symbol.routine");
-    let by_clauses = format!("ReturnsBy {of}.ended {of}.clauses {of}.Symbol.routine");
-    let states = |statement: &str, from: &str| proofs.stated(theorem) == Some(statement) && proofs.uses(from);
-    (states(&by_kinds, "use Rattle·promises·specs.specs.Returns.{Returns}")
-        || states(&by_clauses, "use Rattle·promises·specs.specs.ByClauses.{ReturnsBy}"))
-        && proofs.uses(&format!("use {} as {of}", function.cited))
+/// Whether a file says that the code of a function returns, of that function's own contract and name, in every environment
+/// of the machine that is wired for its code. The file cites the function under an alias.
+fn says_returns(proofs: &Proofs, function: &Function, said: &Returned) -> bool {
+    let Returned { theorem, alias: of } = said;
+    let Function { cited, contract, clauses, .. } = function;
+    let wired = |stated: &str| format!("(γ : Env) → Wired γ {of}.Symbol.code → {stated} (γ {of}.Symbol.name)");
+    let states = |stated: &str| proofs.stated(theorem) == Some(&wired(stated));
+    let by_kinds = proofs.uses_of("Returns", "Returns")
+        && states(&format!("Returns {of}.Kinds.ps {of}.Kinds.r {of}.Reads.Learnt"));
+    let by_clauses = clauses.as_ref().is_some_and(|clauses| {
+        proofs.uses_of("ByClauses", "ReturnsBy")
+            && proofs.uses_of("ReaderSays", clauses)
+            && proofs.uses(&format!("use {contract} as {of}-contract"))
+            && states(&format!("ReturnsBy {of}-contract.ended {clauses}"))
+    });
+    (by_kinds || by_clauses)
+        && proofs.uses("use prog.Routine.{Env}")
+        && proofs.uses("use prog.Wired.{Wired}")
+        && proofs.uses(&format!("use {cited} as {of}"))
 }
 
 /// The calls that people make: those that are exported, those that say why, and the readers of rows and lines.
@@ -260,16 +298,24 @@ const CALLS: [&str; 15] = [
     "next_line",
 ];
 
-/// The name under which it is said that a function returns: an exported one's, or that of a call which people make.
-fn returns_of(function: &Function) -> Option<String> {
-    let exported = function.name.strip_prefix("suntimpani_").map(|call| format!("exported-{call}-returns"));
-    exported.or_else(|| CALLS.contains(&&*function.name).then(|| format!("{}-returns", function.name)))
+/// The theorem that says that a function returns, and the alias of the function in it.
+struct Returned {
+    theorem: String,
+    alias: String,
+}
+
+/// The names under which it is said that a function returns: an exported one's, or those of a call which people make.
+fn returns_of(function: &Function) -> Option<Returned> {
+    let name = &function.name;
+    let exported = name.strip_prefix("suntimpani_");
+    let exported = exported.map(|call| (format!("exported_{call}_returns"), format!("exported-{call}")));
+    let called = || CALLS.contains(&&**name).then(|| (format!("{name}_returns"), name.clone()));
+    exported.or_else(called).map(|(theorem, alias)| Returned { theorem, alias })
 }
 
 /// Of which functions nothing says that they return, where it must be said.
 fn unreturned(functions: &[Function], proofs: &Proofs) -> Vec<String> {
-    let said =
-        |function: &&Function| returns_of(function).is_some_and(|theorem| !says_returns(proofs, function, &theorem));
+    let said = |function: &&Function| returns_of(function).is_some_and(|said| !says_returns(proofs, function, &said));
     functions.iter().filter(said).map(|function| format!("{}: nothing states that it returns", function.name)).collect()
 }
 
@@ -311,8 +357,8 @@ fn stale(functions: &[Function], proofs: &[Proofs], document: &str) -> Vec<Strin
     let known = |name: &str, asks: bool| functions.iter().any(|other| other.name == name && (other.requires || !asks));
     let mut stale = Vec::new();
     for theorem in proofs.iter().flat_map(Proofs::theorems) {
-        let about = theorem.strip_suffix("-determined").map(|name| (name, false));
-        let about = about.or(theorem.strip_suffix("-met").map(|name| (name, true)));
+        let about = theorem.strip_suffix("_determined").map(|name| (name, false));
+        let about = about.or(theorem.strip_suffix("_met").map(|name| (name, true)));
         if about.is_some_and(|(name, asks)| !known(name, asks)) {
             stale.push(format!("{theorem}: it is about no function"));
         }
@@ -341,6 +387,66 @@ fn excepted_faults(functions: &[Found], document: &str) -> Vec<String> {
     let gone = excepted.iter().filter(|name| !functions.iter().any(|function| function.name == **name));
     faults.extend(gone.map(|name| format!("{name}: no program has what is excepted")));
     faults
+}
+
+// ---- the static libraries
+
+/// A public function: its name, all that is said of it before its body, and its body, each with one space between words.
+#[derive(Debug, PartialEq)]
+struct Text {
+    name: String,
+    said: String,
+    body: String,
+}
+
+fn texts_of(source: &str) -> Vec<Text> {
+    let bare = bare(source);
+    let words = words(&bare);
+    let mut texts = Vec::new();
+    for at in (0..words.len()).filter(|&at| words[at] == "pub") {
+        let Some((name, _)) = named(&words[at + 1..]) else { continue };
+        let rest = &words[at..][words[at..].iter().position(|word| *word == name).unwrap_or(0)..];
+        let (said, behind) = rest.split_at(before_body(rest));
+        // The layout puts a comma behind the last parameter where each has its line.
+        let said = said.join(" ").replace(", )", ")");
+        texts.push(Text { name, said, body: behind[..braced(behind)].join(" ") });
+    }
+    texts
+}
+
+/// How many words there are before a function's body. A clause is braced as a body is.
+fn before_body(words: &[&str]) -> usize {
+    let mut at = 0;
+    while at < words.len() && words[at] != "{" {
+        at += if ["requires", "ensures"].contains(&words[at]) { braced(&words[at..]) } else { 1 };
+    }
+    at
+}
+
+/// What is wrong with the functions of a static library: each must be a public function of the library, with the same
+/// parameters and clauses, and its body one call of that one.
+fn export_faults(exports: &str, library: &str, source: &str) -> Vec<String> {
+    let owned = texts_of(source);
+    let fault = |export: Text| {
+        let Text { name, said, body } = export;
+        let Some(other) = owned.iter().find(|other| other.name == name) else {
+            return Some(format!("{name}: {library} has no such function"));
+        };
+        if other.said != said {
+            return Some(format!("{name}: it says something else than that of {library}"));
+        }
+        let call = format!("{{ {library} : : {name} ( {} ) }}", parameters_in(&said).join(" , "));
+        (body != call).then(|| format!("{name}: it does something else than to call that of {library}"))
+    };
+    texts_of(exports).into_iter().filter_map(fault).collect()
+}
+
+/// The names of a function's parameters.
+fn parameters_in(said: &str) -> Vec<&str> {
+    let words: Vec<&str> = said.split(' ').collect();
+    let end = words.iter().position(|word| *word == ")").unwrap_or(words.len());
+    let named = words[..end].windows(3).filter(|three| ["(", ","].contains(&three[0]) && three[2] == ":");
+    named.map(|three| three[1]).collect()
 }
 
 // ---- the repository
@@ -376,13 +482,25 @@ fn sources_in(folder: &Path, module: &str) -> Vec<Source> {
     sources
 }
 
-/// The public functions of all libraries.
+/// The names of the static libraries, by crates.txt.
+fn static_libraries() -> Vec<String> {
+    let crates = text_of(&in_repository("crates.txt"));
+    crates.lines().filter_map(|line| line.split_once(" staticlib:")).map(|(name, _)| name.to_string()).collect()
+}
+
+/// The public functions of all libraries, but for the static ones.
 fn of_libraries() -> Vec<Function> {
+    let is_static = |path: &PathBuf| static_libraries().iter().any(|name| path.ends_with(name));
     let libraries = listed(&in_repository("crates")).into_iter().filter(|path| path.join("src/lib.rt").exists());
+    let libraries = libraries.filter(|path| !is_static(path));
     let mut functions = Vec::new();
     for library in libraries {
         let name = library.file_name().and_then(|name| name.to_str()).expect("a name");
         functions.extend(functions_of(name, &sources_in(&library.join("src"), "")));
+    }
+    let named = Proofs::of(&text_of(&in_repository("crates/promises/specs/ReaderSays.antt")));
+    for function in &mut functions {
+        function.clauses = named.clauses_of(function);
     }
     functions
 }
@@ -411,6 +529,19 @@ fn every_public_function_is_spoken_of() {
 }
 
 #[test]
+fn a_static_library_says_and_does_what_its_library_does() {
+    let libraries = static_libraries();
+    assert_eq!(libraries, ["suntimpani_c", "measure_c", "measure_lines_c"]);
+    for exports in libraries {
+        let library = exports.strip_suffix("_c").expect("a library's name, and what it is for");
+        let root = |name: &str| text_of(&in_repository("crates").join(name).join("src/lib.rt"));
+        assert_eq!(listed(&in_repository("crates").join(&exports).join("src")).len(), 1, "{exports}");
+        assert!(!texts_of(&root(&exports)).is_empty(), "{exports}: no function was found");
+        assert_eq!(export_faults(&root(&exports), library, &root(library)), [""; 0], "{exports}");
+    }
+}
+
+#[test]
 fn every_public_function_of_a_program_is_excepted() {
     let programs = listed(&in_repository("crates")).into_iter().filter(|path| path.join("src/main.rt").exists());
     let sources: Vec<Source> = programs.flat_map(|program| sources_in(&program.join("src"), "")).collect();
@@ -431,11 +562,11 @@ fn public_functions_are_found() {
     let text = r#"
         pub struct Pair { pub left: u64 }
         pub fn plain(n: u64) -> u64 { n }
-        #[no_mangle]
+        #[unsafe(no_mangle)]
         pub extern "C" fn exported(
             n: u64,
         ) -> u64
-            ensures { λ r. ⌜ r ≡ n ⌝ }
+            ensures { result ≡ n }
         { n }
         impl Pair { pub fn method(self) -> u64 { self.left } }
         pub fn after() {}
@@ -460,23 +591,55 @@ fn private_functions_comments_and_strings_do_not_count() {
 fn a_requires_is_seen() {
     let text = "
         pub fn asks(n: u64) -> u64
-            requires { ⌜ n < 8 ⌝ }
-            ensures { λ r. ⌜ r ≡ n ⌝ }
+            requires { n < 8 }
+            ensures { result ≡ n }
         { n }
         pub fn asks_last(n: u64) -> u64
-            ensures range { λ r. ⌜ r ≡ f {A = ℕ} n ⌝ }
-            requires { ⌜ n < 8 ⌝ }
+            ensures range { result ≡ f {A = ℕ} n }
+            requires { n < 8 }
         { n }
         pub fn asks_nothing(n: u64) -> u64
-            // requires { ⌜ n < 8 ⌝ }
-            ensures { λ r. ⌜ r ≡ n ⌝ }
+            // requires { n < 8 }
+            ensures { result ≡ n }
         { n }
         fn inner(n: u64) -> u64
-            requires { ⌜ n < 8 ⌝ }
+            requires { n < 8 }
         { n }
     ";
     let all = [("asks", true), ("asks_last", true), ("asks_nothing", false)];
     assert_eq!(public_functions(text), all.map(|(name, requires)| found(name, None, requires)));
+}
+
+const OWNED: &str = "pub fn get(n: u64, m: u64) -> u64 ensures { result ≡ n } { n }\nfn inner() {}";
+const EXPORTED: &str = r#"
+    // The same.
+    #[unsafe(no_mangle)]
+    pub extern "C" fn get(
+        n: u64,
+        m: u64,
+    ) -> u64
+        ensures { result ≡ n }
+    {
+        low::get(n, m)
+    }
+"#;
+
+/// What is wrong with an export after a change of a part of it.
+fn export_faults_after(part: &str, other: &str) -> Vec<String> {
+    assert!(EXPORTED.contains(part), "{part} is not in the export");
+    export_faults(&EXPORTED.replace(part, other), "low", OWNED)
+}
+
+#[test]
+fn an_export_that_differs_from_the_library_is_found() {
+    let (other, more) = ("something else than that of low", "something else than to call that of low");
+    assert_eq!(export_faults_after("The same.", "Nothing else."), [""; 0]);
+    assert_eq!(export_faults_after("fn get", "fn inner"), ["inner: low has no such function"]);
+    assert_eq!(export_faults_after("≡ n", "≡ m"), [format!("get: it says {other}")]);
+    assert_eq!(export_faults_after("ensures {", "requires { n < 8 } ensures {"), [format!("get: it says {other}")]);
+    assert_eq!(export_faults_after("m: u64", "m: u32"), [format!("get: it says {other}")]);
+    assert_eq!(export_faults_after("(n, m)", "(m, n)"), [format!("get: it does {more}")]);
+    assert_eq!(export_faults_after("low::get", "high::get"), [format!("get: it does {more}")]);
 }
 
 #[test]
@@ -488,25 +651,25 @@ fn a_method_is_cited_under_its_type() {
         source("types", "pub struct Pair { pub left: u64 }"),
     ];
     let cited: Vec<String> = functions_of("low", &sources).into_iter().map(|function| function.cited).collect();
-    assert_eq!(cited, ["Rattle·low.proofs.root", "Rattle·low.proofs.types.Pair.next"]);
+    assert_eq!(cited, ["Rattle.low.proofs.root", "Rattle.low.proofs.types.Pair.next"]);
 }
 
 /// One function that asks, all that must be said of it, and the document.
-const SOURCE: &str = "pub fn get(n: u64) -> u64 requires { ⌜ n < 8 ⌝ } ensures { λ r. ⌜ r ≡ n ⌝ } { n }";
+const SOURCE: &str = "pub fn get(n: u64) -> u64 requires { n < 8 } ensures { result ≡ n } { n }";
 const PROOFS: &str = "
 -- What `get` promises.
-use Rattle·promises·specs.specs.Determined.{Determined}
-use Rattle·low.proofs.field.get.Kinds as get-kinds
-use Rattle·low.proofs.field.get.Reads as get-reads
+use Rattle.promises.specs.Determined.{Determined}
+use Rattle.low.proofs.field.get.Kinds as get-kinds
+use Rattle.low.proofs.field.get.Reads as get-reads
 
-pub get-determined :
+pub get_determined :
     Determined get-kinds.ps get-kinds.r
       get-reads.Learnt
-get-determined κs a = refl
+get_determined κs a = refl
 
-pub get-met : (κs : Lfts 0) → get-reads.Asked κs (7, tt)
+pub get_met : (κs : Lfts 0) → get-reads.Asked κs (7, tt)
 unfolding seven
-get-met κs = omega arith
+get_met κs = omega arith
 ";
 const DOCUMENT: &str = "
 | Function | What its `requires` asks |
@@ -528,16 +691,16 @@ const UNMET: &str = "get: nothing states that its `requires` can be met";
 #[test]
 fn what_is_said_in_full_has_no_fault() {
     assert_eq!(faults_after("a small number", "a number below 8"), [""; 0]);
-    assert_eq!(faults_after("get-determined", "«get-determined»"), [""; 0]);
+    assert_eq!(faults_after("get_determined", "«get_determined»"), [""; 0]);
 }
 
 #[test]
 fn a_function_that_nothing_is_stated_of_is_found() {
     let with_another = format!("{SOURCE} pub fn put() {{}}");
     assert_eq!(faults_after(SOURCE, &with_another), ["put: nothing states that it determines its reply"]);
-    assert_eq!(faults_after("pub get-determined", "get-determined"), [UNDETERMINED]);
-    assert_eq!(faults_after("pub get-determined", "-- pub get-determined"), [UNDETERMINED]);
-    assert_eq!(faults_after("pub get-met", "{- pub get-met"), [UNMET]);
+    assert_eq!(faults_after("pub get_determined", "get_determined"), [UNDETERMINED]);
+    assert_eq!(faults_after("pub get_determined", "-- pub get_determined"), [UNDETERMINED]);
+    assert_eq!(faults_after("pub get_met", "{- pub get_met"), [UNMET]);
     assert_eq!(faults_after("| `get` |", "| get |"), ["get: the document does not say why it asks"]);
 }
 
@@ -552,19 +715,66 @@ fn a_statement_about_another_contract_is_found() {
     assert_eq!(faults_after("get-reads.Asked", "put-reads.Asked"), [UNMET]);
 }
 
+const CLAUSES: &str = "
+use Rattle.low.specs.contracts.reader.next as next
+use Rattle.promises.specs.ByClauses.{Stated, Plainly}
+abbrev pub turn_clauses : Stated next.ended
+turn_clauses 𝓤 𝓛 = next.clauses 𝓛
+";
+const BY_CLAUSES: &str = "
+use prog.Routine.{Env}
+use prog.Wired.{Wired}
+use Rattle.low.proofs.reader.next as called
+use Rattle.low.specs.contracts.reader.next as next
+use Rattle.low.specs.contracts.reader.next as called-contract
+use Rattle.promises.specs.ByClauses.{DeterminedBy, ReturnsBy}
+use Rattle.promises.specs.ReaderSays.{turn_clauses, turn_says}
+
+pub next_determined : DeterminedBy next.ended turn_clauses
+next_determined = it
+
+pub next_returns : (γ : Env) → Wired γ called.Symbol.code → ReturnsBy called-contract.ended turn_clauses (γ called.Symbol.name)
+next_returns γ wired = it
+";
+
+/// Whether these say, after a change of a part of them, that a function of a reader determines its reply, and that it
+/// returns.
+fn said_by_clauses(part: &str, other: &str) -> (bool, bool) {
+    assert!([CLAUSES, BY_CLAUSES].iter().any(|text| text.contains(part)), "{part} is in neither text");
+    let source = Source { module: "reader".to_string(), text: "pub fn next() {}".to_string() };
+    let mut function = functions_of("low", &[source]).remove(0);
+    function.clauses = Proofs::of(&CLAUSES.replace(part, other)).clauses_of(&function);
+    let proofs = Proofs::of(&BY_CLAUSES.replace(part, other));
+    let said = Returned { theorem: "next_returns".to_string(), alias: "called".to_string() };
+    (says_determined(&proofs, &function), says_returns(&proofs, &function, &said))
+}
+
+#[test]
+fn what_is_said_by_clauses_is_of_the_function() {
+    assert_eq!(said_by_clauses("= it", "= other"), (true, true));
+    assert_eq!(said_by_clauses("= next.clauses 𝓛", "= other.clauses 𝓛"), (false, false));
+    assert_eq!(said_by_clauses("contracts.reader.next as next", "contracts.reader.other as next"), (false, false));
+    assert_eq!(said_by_clauses("ReaderSays.{turn_clauses, ", "ReaderSays.{"), (false, false));
+    assert_eq!(said_by_clauses("DeterminedBy next.ended turn", "DeterminedBy next.ended other"), (false, true));
+    assert_eq!(said_by_clauses("reader.next as called\n", "reader.other as called\n"), (true, false));
+    assert_eq!(said_by_clauses("reader.next as called-", "reader.other as called-"), (true, false));
+    assert_eq!(said_by_clauses("→ Wired γ called.Symbol.code →", "→ ⊥ →"), (true, false));
+    assert_eq!(said_by_clauses("(γ called.Symbol.name)", "(γ other.Symbol.name)"), (true, false));
+}
+
 #[test]
 fn another_statement_under_the_name_is_found() {
     assert_eq!(faults_after("Determined get-kinds.ps", "Undetermined get-kinds.ps"), [UNDETERMINED]);
     assert_eq!(faults_after("    Determined get-kinds.ps", "    ⊥ → Determined get-kinds.ps"), [UNDETERMINED]);
     assert_eq!(faults_after("get-reads.Learnt\n", "get-reads.Learnt → ⊥\n"), [UNDETERMINED]);
-    let with_hypothesis = "module _ (never : ⊥) where\n  pub get-determined";
-    assert_eq!(faults_after("pub get-determined", with_hypothesis), [UNDETERMINED]);
-    assert_eq!(faults_after("·specs.specs.Determined.{", "·specs.specs.Other.{"), [UNDETERMINED]);
+    let with_hypothesis = "module _ (never : ⊥) where\n  pub get_determined";
+    assert_eq!(faults_after("pub get_determined", with_hypothesis), [UNDETERMINED]);
+    assert_eq!(faults_after("promises.specs.Determined.{", "promises.specs.Other.{"), [UNDETERMINED]);
 }
 
 #[test]
 fn what_is_said_of_no_function_is_found() {
-    let gone = ["get-determined: it is about no function", "get-met: it is about no function"];
+    let gone = ["get_determined: it is about no function", "get_met: it is about no function"];
     let row = "get: the document's row is about no function";
     assert_eq!(faults_after(SOURCE, "fn get(n: u64) -> u64 { n }"), [gone[0], gone[1], row]);
     assert_eq!(faults_after(SOURCE, "pub fn get(n: u64) -> u64 { n }"), [gone[1], row]);

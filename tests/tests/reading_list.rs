@@ -7,25 +7,25 @@ use std::fs;
 use suntimpani_tests::in_repository;
 
 /// The one file that is used and need not be read: any other decision of the same would do.
-const REPLACEABLE: &str = "crates/promises/specs/inner/Deciding.antt";
+const REPLACEABLE: &str = "crates/promises/specs/Inner/Deciding.antt";
 
 /// What the files of the second list use to say what is ours, and what our contracts allow. The page names them.
 const OURS: [&str; 5] = [
-    "crates/accept/specs/computed/Checks.antt",
-    "crates/listing/specs/computed/Reader.antt",
+    "crates/accept/specs/Computed/Checks.antt",
+    "crates/listing/specs/Computed/Reader.antt",
     "crates/promises/specs/Determined.antt",
     "crates/promises/specs/ReaderSays.antt",
-    "crates/promises/specs/inner/Lent.antt",
+    "crates/promises/specs/Inner/Lent.antt",
 ];
 
 /// What the files of the third list and the fourth use to say what our contracts allow. The page names it.
-const CONTRACTS: &str = "crates/promises/specs/Contracts.antt";
+const CONTRACTS: &str = "crates/promises/specs/StatedContracts.antt";
 
 /// What the files of the fifth list use of the second, to say what stands in a struct, and to say what is ours and what
 /// our contracts allow. The page names them.
 const OURS_TO_ASK: [&str; 6] = [
-    "crates/ask/specs/computed/Ask.antt",
-    "crates/promises/specs/Contracts.antt",
+    "crates/ask/specs/Computed/Ask.antt",
+    "crates/promises/specs/StatedContracts.antt",
     "crates/promises/specs/Determined.antt",
     "crates/promises/specs/Exported.antt",
     "crates/suntimpani/specs/Flat.antt",
@@ -33,7 +33,8 @@ const OURS_TO_ASK: [&str; 6] = [
 ];
 
 /// What the files of the sixth list use to say what our contracts allow. The page names them.
-const OURS_TO_EXPLAIN: [&str; 2] = ["crates/promises/specs/Contracts.antt", "crates/promises/specs/Determined.antt"];
+const OURS_TO_EXPLAIN: [&str; 2] =
+    ["crates/promises/specs/StatedContracts.antt", "crates/promises/specs/Determined.antt"];
 
 /// A row of a list: a file and its lines.
 #[derive(Debug, PartialEq)]
@@ -65,14 +66,15 @@ fn parts(page: &str) -> Vec<&str> {
     page.split("and no others: ").skip(1).collect()
 }
 
-/// The file of definitions of ours that a line of antt uses, if it uses one: "use Rattle·low.specs.Field.{fieldOf}". What is
-/// declared in code has no file of definitions.
+/// The file of definitions of ours that a line of antt uses, if it uses one: "use Rattle.low.specs.Field.{field_of}". What is
+/// declared in code, or is the contract of a function there, has no file of definitions, and what is of `std` is the
+/// toolchain's.
 fn used_by(line: &str) -> Option<String> {
-    let path = line.strip_prefix("use Rattle·")?;
+    let path = line.strip_prefix("use Rattle.")?;
     let (name, module) = path.split_once(".specs.")?;
     let module = module.split([' ', '{']).next()?.trim_end_matches('.');
-    let name = name.trim_end_matches("·specs");
-    (!module.starts_with("declared")).then(|| format!("crates/{name}/specs/{}.antt", module.replace('.', "/")))
+    (name != "std" && !module.starts_with("declared.") && !module.starts_with("contracts."))
+        .then(|| format!("crates/{name}/specs/{}.antt", module.replace('.', "/")))
 }
 
 /// What is wrong with a list, given those before it, what need not be read, and the text of each file.
@@ -136,10 +138,10 @@ const PAGE: &str =
 
 fn text_of(file: &str) -> String {
     match file {
-        "crates/low/specs/A.antt" => "use Rattle·low·specs.specs.declared.field.Order.{Order}\n",
-        "crates/high/specs/B.antt" => "use Rattle·low.specs.A.{a}\nuse Rattle·low.specs.A as low\n",
+        "crates/low/specs/A.antt" => "use Rattle.low.specs.declared.field.Order.{Order}\n",
+        "crates/high/specs/B.antt" => "use Rattle.low.specs.A.{a}\nuse Rattle.low.specs.A as low\n",
         "crates/top/specs/D.antt" => {
-            "use Rattle·low.specs.A.{a}\nuse Rattle·high.specs.B.{b}\nuse Rattle·low.specs.E.{e}\n"
+            "use Rattle.low.specs.A.{a}\nuse Rattle.high.specs.B.{b}\nuse Rattle.low.specs.E.{e}\n"
         }
         _ => "",
     }
@@ -161,8 +163,9 @@ fn a_list_is_read() {
     assert_eq!(parts(PAGE).into_iter().map(lines_said).collect::<Vec<_>>(), [Some(1003), Some(3)]);
     assert_eq!(of_first(PAGE), [""; 0]);
     assert_eq!(of_second(PAGE, &["crates/low/specs/E.antt"]), [""; 0]);
-    assert_eq!(used_by("use Rattle·low.specs.inner.C.{c}").as_deref(), Some("crates/low/specs/inner/C.antt"));
-    assert_eq!(used_by("use lib.ListN.{length}"), None);
+    assert_eq!(used_by("use Rattle.low.specs.Inner.C.{c}").as_deref(), Some("crates/low/specs/Inner/C.antt"));
+    assert_eq!(used_by("use Rattle.std.specs.Prelude.{length}"), None);
+    assert_eq!(used_by("use Rattle.low.specs.contracts.reader.next as next"), None);
 }
 
 #[test]

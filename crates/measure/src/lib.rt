@@ -1,5 +1,5 @@
-// For the benchmark alone: many lookups in a section that is checked once. It is a static library of its own, and no part of the
-// product's. What the lookups found goes into a digest, so that none of them can be left out.
+// For the benchmark alone: many lookups in a section that is checked once. The crate `measure_c` exports it in a static library of its
+// own, and it is no part of the product's. What the lookups found goes into a digest, so that none of them can be left out.
 #![tactic(auto)]
 
 ghost use Rattle.std.specs.Prelude.{◌≡◌, ◌<◌, ◌*◌, ◌^◌};
@@ -125,8 +125,7 @@ fn digest_of(section: &[u8], layout: Layout, address: u64, pcs: &[u64]) -> u64
     digest
 }
 
-#[unsafe(no_mangle)]
-pub extern "C" fn measure_finds(section: &[u8], address: u64, pcs: &[u64]) -> Measured
+pub fn measure_finds(section: &[u8], address: u64, pcs: &[u64]) -> Measured
     ensures { result ≡ measured_of section.now address pcs.now }
 {
     match check(section) {

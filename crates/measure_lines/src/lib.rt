@@ -1,5 +1,6 @@
 // For the benchmark alone: the whole listing of a section that is checked once. Its lines go into a digest, so that none of them can be
-// left out. It is a static library of its own, beside `measure`, so that each is compiled as a program that does one thing has it.
+// left out. The crate `measure_lines_c` exports it in a static library of its own, beside that of `measure`, so that each is compiled as a
+// program that does one thing has it.
 #![tactic(auto)]
 
 ghost use Rattle.std.specs.Prelude.{◌≡◌, ◌<◌, ◌*◌, ◌^◌};
@@ -62,8 +63,7 @@ fn digest_lines(section: &[u8], from: Cursor) -> u64
     }
 }
 
-#[unsafe(no_mangle)]
-pub extern "C" fn measure_listing(section: &[u8]) -> Measured
+pub fn measure_listing(section: &[u8]) -> Measured
     ensures { result ≡ listed_of section.now }
 {
     match check(section) {

@@ -28,7 +28,7 @@ use Rattle.caller.proofs.registers.cfa_of_sp.Reads as cfa_of_sp-reads
 use Rattle.caller.proofs.registers.is_low.Kinds as is_low-kinds
 use Rattle.caller.proofs.registers.is_low.Reads as is_low-reads
 use Rattle.caller.proofs.signature.clear.Kinds as clear-kinds
-use Rattle.caller.proofs.signature.clear.Reads as clear_reads
+use Rattle.caller.proofs.signature.clear.Reads as clear-reads
 use Rattle.caller.proofs.signature.is_maskless.Kinds as is_maskless-kinds
 use Rattle.caller.proofs.signature.is_maskless.Reads as is_maskless-reads
 use Rattle.caller.proofs.signature.mask_of.Kinds as mask_of-kinds
@@ -71,7 +71,7 @@ is_maskless_determined κs a z z' w w' p q = (p ∙ sym q, refl)
 pub mask_of_determined : Determined mask_of-kinds.ps mask_of-kinds.r mask_of-reads.Learnt
 mask_of_determined κs a z z' w w' p q = (p ∙ sym q, refl)
 
-pub clear_determined : Determined clear-kinds.ps clear-kinds.r clear_reads.Learnt
+pub clear_determined : Determined clear-kinds.ps clear-kinds.r clear-reads.Learnt
 clear_determined κs a z z' w w' p q = (p ∙ sym q, refl)
 
 pub from_row_determined : Determined from_row-kinds.ps from_row-kinds.r from_row-reads.Learnt

@@ -1,4 +1,5 @@
-// The C surface, a static library: flat answers by value, nothing allocated, nothing kept.
+// The answers of the eight calls as C has them: flat structs by value, nothing allocated, nothing kept. The crate `suntimpani_c` exports
+// these functions.
 #![tactic(auto)]
 
 pub mod asks;
@@ -35,50 +36,43 @@ use listing::rows::row_turn;
 use lookup::look::lookup;
 use trace::walk::trace;
 
-#[unsafe(no_mangle)]
-pub extern "C" fn suntimpani_check(section: &[u8]) -> VerdictInC
+pub fn suntimpani_check(section: &[u8]) -> VerdictInC
     ensures { result ≡ flat_verdict (verdict section.now) }
 {
     flat_verdict(check(section))
 }
 
-#[unsafe(no_mangle)]
-pub extern "C" fn suntimpani_function_at(section: &[u8], index: u64) -> FunctionInC
+pub fn suntimpani_function_at(section: &[u8], index: u64) -> FunctionInC
     ensures { result ≡ flat_function (described_of section.now index) }
 {
     flat_function(function_at(section, index))
 }
 
-#[unsafe(no_mangle)]
-pub extern "C" fn suntimpani_rows_of(section: &[u8], index: u64) -> RowsInC
+pub fn suntimpani_rows_of(section: &[u8], index: u64) -> RowsInC
     ensures { result ≡ flat_place (place_in (described_of section.now index)) }
 {
     flat_place(place_in(function_at(section, index)))
 }
 
-#[unsafe(no_mangle)]
-pub extern "C" fn suntimpani_next_row(section: &[u8], rows: RowsInC) -> RowInC
+pub fn suntimpani_next_row(section: &[u8], rows: RowsInC) -> RowInC
     ensures { result ≡ flat_turn (row_turn section.now (read_rows rows)) }
 {
     flat_turn(row_turn(section, place_read(rows)))
 }
 
-#[unsafe(no_mangle)]
-pub extern "C" fn suntimpani_lookup(section: &[u8], address: u64, pc: u64) -> AnswerInC
+pub fn suntimpani_lookup(section: &[u8], address: u64, pc: u64) -> AnswerInC
     ensures { result ≡ flat_answer (lookup_of section.now address pc) }
 {
     flat_answer(lookup(section, address, pc))
 }
 
-#[unsafe(no_mangle)]
-pub extern "C" fn suntimpani_ask(section: &[u8], address: u64, pc: u64) -> AnswerInC
+pub fn suntimpani_ask(section: &[u8], address: u64, pc: u64) -> AnswerInC
     ensures { result ≡ flat_asked (ask_of section.now address pc) }
 {
     flat_asked(ask(section, address, pc))
 }
 
-#[unsafe(no_mangle)]
-pub extern "C" fn suntimpani_caller(
+pub fn suntimpani_caller(
     section: &[u8],
     stack: &[u8],
     process: Process,
@@ -89,8 +83,7 @@ pub extern "C" fn suntimpani_caller(
     flat_step(registers.step(section, stack, process))
 }
 
-#[unsafe(no_mangle)]
-pub extern "C" fn suntimpani_trace(
+pub fn suntimpani_trace(
     section: &[u8],
     stack: &[u8],
     process: Process,
