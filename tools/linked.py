@@ -122,10 +122,55 @@ def text_of(crate, of, below, all_of):
     return "\n".join(lines).rstrip("\n") + "\n"
 
 
+def text_of_all(crates, orders, all_of):
+    """One look-up that has them all, and the functions that crates/promises/proofs/Returned.antt speaks of, wired in its environment."""
+    cited = []
+    returned = read("crates/promises/proofs/Returned.antt")
+    named = {m[3] or m[2].split(".")[-1]: (m[1], m[2]) for m in re.finditer(r"(?m)^use Rattle\.(\w+)\.proofs\.(\S+?)(?: as (\S+))?$", returned)}
+    for theorem, alias in re.findall(r"(?m)^pub (\w+)_returns : \(γ : Env\) → Wired γ (\S+)\.Symbol\.code", returned):
+        cited.append((theorem, alias, *named[alias]))
+    lines = [
+        "-- There is an environment of the machine in which the name of each function means its code, with the code of all that it calls: that of",
+        "-- the look-up which lists them (`tie` of `prog.Linked`). So what `Returned` and `Ran` say of every environment that is wired for a",
+        "-- function's code is not said of nothing. Written by tools/linked.py.",
+        "-- Assumes nothing.",
+        "use mathlib.Core.Path.{refl}",
+        "use mathlib.Core.Bool.{false}",
+        "use mathlib.Core.List.{[]}",
+        "use mir.Syntax.{Symbol}",
+        "use prog.Linked.{Entry, in_entries, tie, tie-Follows, Has-Wired}",
+        "use prog.LinkedThreads.{HasT, no_threads}",
+        "use prog.Routine.{Env}",
+        "use prog.Wired.{Code, Wired}",
+    ]
+    for c in crates:
+        lines.append(f"use Rattle.{c}.proofs.Linked as {c}")
+    for _, alias, c, path in cited:
+        lines.append(f"use Rattle.{c}.proofs.{path}.Symbol as {alias}-symbol")
+    nested = "[]"
+    for c in crates:
+        nested = f"{c}.entries {nested}" if nested == "[]" else f"{c}.entries ({nested})"
+    lines += ["", "abbrev look : Symbol → Entry", f"look = in_entries ({nested})", "", "pub linked : Env", "linked = tie look", ""]
+    for c in crates:
+        lines += [f"in_{c} : {c}.Finds look", f"in_{c} =", "    record {"]
+        lines += [f"      {name_of(path)} = refl;" for path in orders[c]]
+        lines += ["    }", ""]
+    lines += [
+        "wired : (code : Code) → HasT look false code → Wired linked code",
+        "unfolding linked",
+        "wired code has = Has-Wired look (tie look) (tie-Follows look) code (no_threads look code has)",
+        "",
+    ]
+    for theorem, alias, c, path in cited:
+        given = "".join(f" in_{d}" for d in all_of[c]["needs"] + [c])
+        lines += [f"pub {theorem}_wired : Wired linked {alias}-symbol.code", f"{theorem}_wired = wired {alias}-symbol.code ({c}.{name_of(path)} look{given})", ""]
+    return "\n".join(lines).rstrip("\n") + "\n"
+
+
 def main(argv):
     folder, crates = argv[0], argv[1:]
     below = list(known())
-    all_of = {}
+    all_of, orders = {}, {}
     for crate in sorted(crates, key=below.index):
         of = functions(folder, crate)
         text = text_of(crate, of, below, all_of)
@@ -137,7 +182,10 @@ def main(argv):
             names = sorted((lines | {"pub mod Linked"}) - {""}, key=lambda it: it.split()[-1])
             with open(lib, "w", encoding="utf-8") as f:
                 f.write("\n".join(names) + "\n")
+        orders[crate] = ordered(of, crate)
         print(crate, len(of), all_of[crate]["needs"])
+    with open("crates/promises/proofs/Linked.antt", "w", encoding="utf-8") as f:
+        f.write(text_of_all(sorted(crates, key=below.index), orders, all_of))
 
 
 if __name__ == "__main__":

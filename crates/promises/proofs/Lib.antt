@@ -16,6 +16,7 @@ pub mod ExportedKept
 pub mod FunctionCallKept
 pub mod FunctionsOfS
 pub mod Kept
+pub mod Linked
 pub mod ListingAlone
 pub mod ListingDetermined
 pub mod ListingKept
