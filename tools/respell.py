@@ -64,7 +64,7 @@ def gather(root):
     own, fields, foreign, tokens = {}, {}, set(), set()
     for path in files(root, ".antt"):
         text = read(path)
-        in_record, depth = False, 0
+        in_record, depth, in_data, data_depth = False, 0, False, 0
         for line in text.split("\n"):
             if line.startswith("use "):
                 m = re.match(r"use (\S+?)(?:\.\{(.*)\})?(?: as (\S+))?$", line)
@@ -81,6 +81,14 @@ def gather(root):
                 in_record, depth = True, len(line) - len(line.lstrip())
             elif line.strip() and len(line) - len(line.lstrip()) <= depth and not line.lstrip().startswith("--"):
                 in_record = False
+            if re.match(r"^ *(pub )?data ", line):
+                in_data, data_depth = True, len(line) - len(line.lstrip())
+            elif line.strip() and len(line) - len(line.lstrip()) <= data_depth and not line.lstrip().startswith("--"):
+                in_data = False
+            if in_data:
+                m = re.match(r"^\s+(" + WORD + r"(?: " + WORD + r")*)\s+:\s", line)
+                for name in (m[1].split() if m else []):
+                    own.setdefault(name, set()).add(path)
             if in_record:
                 m = re.match(r"^\s+(?:pub )?(" + WORD + r")\s+(?::|\()", line)
                 if m:

@@ -61,9 +61,9 @@ pub row_readable : {s : List ℕ} → Obeys s → (i k : ℕ) → i < function_c
 unfolding row_count
 row_readable obeys i k lt inside = entry_readable _ _ _ (fault_free obeys i lt) k inside
 
-pub rows_rising : {s : List ℕ} → Obeys s → (i j k : ℕ) → i < function_count s → j < k → k < row_count s i → row_start_at s i j < row_start_at s i k
+pub rows_rising_lem : {s : List ℕ} → Obeys s → (i j k : ℕ) → i < function_count s → j < k → k < row_count s i → row_start_at s i j < row_start_at s i k
 unfolding row_count row_start_at
-rows_rising obeys i j k lt less inside = entry_rising _ _ _ (fault_free obeys i lt) j k less inside
+rows_rising_lem obeys i j k lt less inside = entry_rising _ _ _ (fault_free obeys i lt) j k less inside
 
 -- ---- sorted functions
 

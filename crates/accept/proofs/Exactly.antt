@@ -11,7 +11,7 @@ use native.Mathlib.Omega.{arith}
 use lib.ListN.{get_or}
 use Rattle.section.specs.Entry.{type_of}
 use Rattle.section.specs.Meaning.{area_of, shape_of, entry_in, row_place_at}
-use Rattle.accept.specs.Given.{Rule, short, long, magic, version, flags, abi, fixed, sizes, entryInfo, repeatSize, rowsInside, rowInfo, rowsRising, sorted, rowSum, number_of_rule, Reached, RowsReached, RowReached, Given}
+use Rattle.accept.specs.Given.{Rule, short, long, magic, version, flags, abi, fixed, sizes, entry_info, repeat_size, rows_inside, row_info, rows_rising, sorted, row_sum, number_of_rule, Reached, RowsReached, RowReached, Given}
 use Rattle.accept.specs.Rules.{function_count, row_count, row_info_at, row_length_at, row_start_at, Rule9, Rule10, Rule11First, Rule14, Rule15, HeaderObeys, RowObeys, EntryObeys, Obeys}
 use Rattle.accept.specs.Computed.Checks.{header_tests, header_fault, entry_tests, row_tests, row_fault, low_of, row_fault_in, rows_fault, entry_fault, turn_fault, sum_fault, entries_verdict, verdict}
 use Rattle.accept.specs.declared.verdict.Fault.TheVariants.{Sound, Breaks}
@@ -159,15 +159,15 @@ given_refused s abi i g = header_given s 6 i g.0 (inr (g.1, inr (g.2, inr (g.3, 
 given_refused s fixed i g = header_given s 7 i g.0 (inr (g.1, inr (g.2, inr (g.3, inr (g.4, inr (g.5, inr (g.6, inl (refl, g.7))))))))
 given_refused s sizes i g =
     header_given s 8 i g.0 (inr (g.1, inr (g.2, inr (g.3, inr (g.4, inr (g.5, inr (g.6, inr (g.7, inl (refl, g.8)))))))))
-given_refused s entryInfo i g = entry_given s 9 i g.0 (inl (refl, g.1))
-given_refused s repeatSize i g = entry_given s 10 i g.0 (inr (g.1, inl (refl, g.2)))
-given_refused s rowsInside i (inl g) = entry_given s 11 i g.0 (inr (g.1, inr (g.2, inl (refl, g.3))))
-given_refused s rowsInside i (inr g) =
+given_refused s entry_info i g = entry_given s 9 i g.0 (inl (refl, g.1))
+given_refused s repeat_size i g = entry_given s 10 i g.0 (inr (g.1, inl (refl, g.2)))
+given_refused s rows_inside i (inl g) = entry_given s 11 i g.0 (inr (g.1, inr (g.2, inl (refl, g.3))))
+given_refused s rows_inside i (inr g) =
     row_given s 11 i g.0 g.1 (⊎_elim (λ bad. inl (refl, bad)) (λ r. inr (r.0, inr (r.1, inl (refl, r.2)))) g.2)
-given_refused s rowInfo i g = row_given s 12 i g.0 g.1 (inr (g.2, inl (refl, g.3)))
-given_refused s rowsRising i g = row_given s 13 i g.0 g.1 (inr (g.2, inr (g.3, inr (g.4, inl (refl, g.5)))))
+given_refused s row_info i g = row_given s 12 i g.0 g.1 (inr (g.2, inl (refl, g.3)))
+given_refused s rows_rising i g = row_given s 13 i g.0 g.1 (inr (g.2, inr (g.3, inr (g.4, inl (refl, g.5)))))
 given_refused s sorted i g = order_given s i g.0 g.1 g.2
-given_refused s rowSum i g = sum_given s i g.0 g.1 g.2 g.3
+given_refused s row_sum i g = sum_given s i g.0 g.1 g.2 g.3
 
 -- ---- every section obeys the rules, or one is given
 
@@ -176,17 +176,17 @@ Refusal s = (rule : Rule) × (i : ℕ) × Given s rule i
 
 row_decided : (s : List ℕ) (i k : ℕ) → RowReached s i k → RowObeys s i k ⊎ Refusal s
 row_decided s i k reached =
-    by_test_lem (rule11_fixed s i k) (λ bad. inr (rowsInside, i, inr (k, reached, inl bad))) λ fixed.
-    by_test_lem (rule12 s i k) (λ bad. inr (rowInfo, i, (k, reached, fixed, bad))) λ r12.
-    by_test_lem (rule11_offsets s i k) (λ bad. inr (rowsInside, i, inr (k, reached, inr (fixed, r12, bad)))) λ offsets.
-    by_test_lem (rule13 s i k) (λ bad. inr (rowsRising, i, (k, reached, fixed, r12, offsets, bad))) λ r13.
+    by_test_lem (rule11_fixed s i k) (λ bad. inr (rows_inside, i, inr (k, reached, inl bad))) λ fixed.
+    by_test_lem (rule12 s i k) (λ bad. inr (row_info, i, (k, reached, fixed, bad))) λ r12.
+    by_test_lem (rule11_offsets s i k) (λ bad. inr (rows_inside, i, inr (k, reached, inr (fixed, r12, bad)))) λ offsets.
+    by_test_lem (rule13 s i k) (λ bad. inr (rows_rising, i, (k, reached, fixed, r12, offsets, bad))) λ r13.
     inl (record { fixed = fixed; rule12 = r12; offsets = offsets; rule13 = r13 })
 
 entry_decided : (s : List ℕ) (i : ℕ) → Reached s i → EntryObeys s i ⊎ Refusal s
 entry_decided s i reached =
-    by_test_lem (rule9 s i) (λ bad. inr (entryInfo, i, (reached, bad))) λ r9.
-    by_test_lem (rule10 s i) (λ bad. inr (repeatSize, i, (reached, r9, bad))) λ r10.
-    by_test_lem (rule11_first s i) (λ bad. inr (rowsInside, i, inl (reached, r9, r10, bad))) λ first.
+    by_test_lem (rule9 s i) (λ bad. inr (entry_info, i, (reached, bad))) λ r9.
+    by_test_lem (rule10 s i) (λ bad. inr (repeat_size, i, (reached, r9, bad))) λ r10.
+    by_test_lem (rule11_first s i) (λ bad. inr (rows_inside, i, inl (reached, r9, r10, bad))) λ first.
     let rows : RowsReached s i = record { entry = reached; rule9 = r9; rule10 = r10; first = first } in
     ⊎_elim
     (λ all.
@@ -208,7 +208,7 @@ obeys_or_refusal s =
     let header : HeaderObeys s = record { rule1 = r1; rule2 = r2; rule3 = r3; rule4 = r4; rule5 = r5; rule6 = r6; rule7 = r7; rule8 = r8 } in
     ⊎_elim
     (λ all.
-    by_test_lem (rule15 s) (λ bad. inr (rowSum, 0, (refl, header, all, bad))) λ r15.
+    by_test_lem (rule15 s) (λ bad. inr (row_sum, 0, (refl, header, all, bad))) λ r15.
     inl (record { header = header; entries = all; rule15 = r15 }))
     inr
     (in_turn (function_count s) (λ i lt earlier. entry_decided s i (record { header = header; inside = lt; earlier = earlier })))
@@ -237,13 +237,13 @@ number_of_rule_lem flags = omega arith
 number_of_rule_lem abi = omega arith
 number_of_rule_lem fixed = omega arith
 number_of_rule_lem sizes = omega arith
-number_of_rule_lem entryInfo = omega arith
-number_of_rule_lem repeatSize = omega arith
-number_of_rule_lem rowsInside = omega arith
-number_of_rule_lem rowInfo = omega arith
-number_of_rule_lem rowsRising = omega arith
+number_of_rule_lem entry_info = omega arith
+number_of_rule_lem repeat_size = omega arith
+number_of_rule_lem rows_inside = omega arith
+number_of_rule_lem row_info = omega arith
+number_of_rule_lem rows_rising = omega arith
 number_of_rule_lem sorted = omega arith
-number_of_rule_lem rowSum = omega arith
+number_of_rule_lem row_sum = omega arith
 
 pub verdict_number_lem : (s : List ℕ) (number i : ℕ) → verdict s ≡ Refused number i → (1 ≤ number) × (number ≤ 15)
 verdict_number_lem s number i e =
@@ -253,7 +253,7 @@ verdict_number_lem s number i e =
 -- the rules by their numbers, from 1 on
 rules : List Rule
 rules =
-    short ∷ long ∷ magic ∷ version ∷ flags ∷ abi ∷ fixed ∷ sizes ∷ entryInfo ∷ repeatSize ∷ rowsInside ∷ rowInfo ∷ rowsRising ∷ sorted ∷ rowSum ∷ []
+    short ∷ long ∷ magic ∷ version ∷ flags ∷ abi ∷ fixed ∷ sizes ∷ entry_info ∷ repeat_size ∷ rows_inside ∷ row_info ∷ rows_rising ∷ sorted ∷ row_sum ∷ []
 
 abbrev rule_of : ℕ → Rule
 unfolding rules
@@ -269,13 +269,13 @@ at_its_number flags = refl
 at_its_number abi = refl
 at_its_number fixed = refl
 at_its_number sizes = refl
-at_its_number entryInfo = refl
-at_its_number repeatSize = refl
-at_its_number rowsInside = refl
-at_its_number rowInfo = refl
-at_its_number rowsRising = refl
+at_its_number entry_info = refl
+at_its_number repeat_size = refl
+at_its_number rows_inside = refl
+at_its_number row_info = refl
+at_its_number rows_rising = refl
 at_its_number sorted = refl
-at_its_number rowSum = refl
+at_its_number row_sum = refl
 
 -- no two rules have one number
 pub by_number : (rule other : Rule) → number_of_rule rule ≡ number_of_rule other → rule ≡ other

@@ -6,7 +6,7 @@ use mathlib.Core.List.{List}
 use mathlib.Core.Logic.{◌⊎◌, inl, inr, ◌↔◌, ⊎_elim}
 use Prim.Native.Nat.{ℕ, ◌≤◌}
 use native.Mathlib.Omega.{arith}
-use Rattle.accept.specs.Given.{Rule, short, long, magic, version, flags, abi, fixed, sizes, entryInfo, repeatSize, rowsInside, rowInfo, rowsRising, sorted, rowSum, number_of_rule, Given, HeaderBreaks}
+use Rattle.accept.specs.Given.{Rule, short, long, magic, version, flags, abi, fixed, sizes, entry_info, repeat_size, rows_inside, row_info, rows_rising, sorted, row_sum, number_of_rule, Given, HeaderBreaks}
 use Rattle.accept.specs.Rules.{HeaderObeys}
 use Rattle.accept.specs.Computed.Checks.{given_at, then_try, header_fault, entries_verdict, verdict}
 use Rattle.accept.specs.declared.verdict.Fault.{Fault}
@@ -31,14 +31,14 @@ given_splits s flags i g = inl (omega arith, λ obeys. g.5 obeys.rule5)
 given_splits s abi i g = inl (omega arith, λ obeys. g.6 obeys.rule6)
 given_splits s fixed i g = inl (omega arith, λ obeys. g.7 obeys.rule7)
 given_splits s sizes i g = inl (omega arith, λ obeys. g.8 obeys.rule8)
-given_splits s entryInfo i g = inr (omega arith, g.0.header)
-given_splits s repeatSize i g = inr (omega arith, g.0.header)
-given_splits s rowsInside i (inl g) = inr (omega arith, g.0.header)
-given_splits s rowsInside i (inr g) = inr (omega arith, g.1.rows.entry.header)
-given_splits s rowInfo i g = inr (omega arith, g.1.rows.entry.header)
-given_splits s rowsRising i g = inr (omega arith, g.1.rows.entry.header)
+given_splits s entry_info i g = inr (omega arith, g.0.header)
+given_splits s repeat_size i g = inr (omega arith, g.0.header)
+given_splits s rows_inside i (inl g) = inr (omega arith, g.0.header)
+given_splits s rows_inside i (inr g) = inr (omega arith, g.1.rows.entry.header)
+given_splits s row_info i g = inr (omega arith, g.1.rows.entry.header)
+given_splits s rows_rising i g = inr (omega arith, g.1.rows.entry.header)
 given_splits s sorted i g = inr (omega arith, g.0.entry.header)
-given_splits s rowSum i g = inr (omega arith, g.1)
+given_splits s row_sum i g = inr (omega arith, g.1)
 
 -- ---- so a fault of the header has the number of one of these
 

@@ -15,13 +15,13 @@ pub data Rule : Type 0 where
   abi : Rule
   fixed : Rule
   sizes : Rule
-  entryInfo : Rule
-  repeatSize : Rule
-  rowsInside : Rule
-  rowInfo : Rule
-  rowsRising : Rule
+  entry_info : Rule
+  repeat_size : Rule
+  rows_inside : Rule
+  row_info : Rule
+  rows_rising : Rule
   sorted : Rule
-  rowSum : Rule
+  row_sum : Rule
 
 -- their numbers
 unfoldable pub number_of_rule : Rule → ℕ
@@ -33,13 +33,13 @@ number_of_rule flags = 5
 number_of_rule abi = 6
 number_of_rule fixed = 7
 number_of_rule sizes = 8
-number_of_rule entryInfo = 9
-number_of_rule repeatSize = 10
-number_of_rule rowsInside = 11
-number_of_rule rowInfo = 12
-number_of_rule rowsRising = 13
+number_of_rule entry_info = 9
+number_of_rule repeat_size = 10
+number_of_rule rows_inside = 11
+number_of_rule row_info = 12
+number_of_rule rows_rising = 13
 number_of_rule sorted = 14
-number_of_rule rowSum = 15
+number_of_rule row_sum = 15
 
 -- document 01's number of a verdict, 0 where accepted, and what it carries: "its number and the entry's index"
 unfoldable pub verdict_number : Verdict → ℕ
@@ -85,14 +85,14 @@ Given s flags i = (i ≡ 0) × Rule1 s × Rule2 s × Rule3 s × Rule4 s × ¬ Ru
 Given s abi i = (i ≡ 0) × Rule1 s × Rule2 s × Rule3 s × Rule4 s × Rule5 s × ¬ Rule6 s
 Given s fixed i = (i ≡ 0) × Rule1 s × Rule2 s × Rule3 s × Rule4 s × Rule5 s × Rule6 s × ¬ Rule7 s
 Given s sizes i = (i ≡ 0) × Rule1 s × Rule2 s × Rule3 s × Rule4 s × Rule5 s × Rule6 s × Rule7 s × ¬ Rule8 s
-Given s entryInfo i = Reached s i × ¬ Rule9 s i
-Given s repeatSize i = Reached s i × Rule9 s i × ¬ Rule10 s i
-Given s rowsInside i =
+Given s entry_info i = Reached s i × ¬ Rule9 s i
+Given s repeat_size i = Reached s i × Rule9 s i × ¬ Rule10 s i
+Given s rows_inside i =
     (Reached s i × Rule9 s i × Rule10 s i × ¬ Rule11First s i) ⊎ ((k : ℕ) × RowReached s i k × RowEndsPast s i k)
-Given s rowInfo i = (k : ℕ) × RowReached s i k × Rule11Fixed s i k × ¬ Rule12 s i k
-Given s rowsRising i = (k : ℕ) × RowReached s i k × Rule11Fixed s i k × Rule12 s i k × Rule11Offsets s i k × ¬ Rule13 s i k
+Given s row_info i = (k : ℕ) × RowReached s i k × Rule11Fixed s i k × ¬ Rule12 s i k
+Given s rows_rising i = (k : ℕ) × RowReached s i k × Rule11Fixed s i k × Rule12 s i k × Rule11Offsets s i k × ¬ Rule13 s i k
 Given s sorted i = RowsReached s i × ((k : ℕ) → k < row_count s i → RowObeys s i k) × ¬ Rule14 s i
-Given s rowSum i = (i ≡ 0) × HeaderObeys s × ((j : ℕ) → j < function_count s → EntryObeys s j) × ¬ Rule15 s
+Given s row_sum i = (i ≡ 0) × HeaderObeys s × ((j : ℕ) → j < function_count s → EntryObeys s j) × ¬ Rule15 s
 
 -- the rule is the first broken one, in the entry with some index
 abbrev pub BrokenFirst : List ℕ → Rule → Type 0

@@ -35,7 +35,7 @@ use Rattle.lookup.proofs.CaseLaws.{functions_at, functions_count}
 use Rattle.lookup.proofs.CoveringLaws.{by_value}
 use Rattle.lookup.proofs.ScanAgreement.{looked_at_in_rows, last_row_agrees}
 use Rattle.ask.specs.Cases.{CanBeAsked, LandsIn, OwnRulesHold, compared_in}
-use Rattle.ask.specs.ReadBy.{Compared, ReadAt, of-header, of_entry, of_row, ReadBy}
+use Rattle.ask.specs.ReadBy.{Compared, ReadAt, of_header, of_entry, of_row, ReadBy}
 use Rattle.ask.specs.Computed.Ask.{checked_row, in_function, where_landed, ask_of}
 use Rattle.ask.proofs.CaseLaws.{landed_there, set_covers, own_rules, ask_broken, ask_unsorted, ask_landed}
 use Rattle.ask.proofs.ComparedLaws.{compared_within, landed_compared, landing_agrees}
@@ -65,7 +65,7 @@ module _ (s t : List ℕ) (address pc : ℕ) (long : length s ≡ length t) (sam
   header-same : AgreeOn (InSpan 0 28) s t
   header-same p said =
       by_value (ltb p (length s))
-      (λ e. same p (of-header said (ltb-true p (length s) e)))
+      (λ e. same p (of_header said (ltb-true p (length s) e)))
       (λ e. past_end s t p long (ltb-false p (length s) e))
 
   one-layout : layout_of s ≡ layout_of t

@@ -27,7 +27,7 @@ use Rattle.lookup.proofs.CoveringLaws.{by_value}
 use Rattle.lookup.proofs.HalvingLaws.{count_twenty}
 use Rattle.ask.specs.Cases.{CanBeAsked}
 use Rattle.ask.specs.Compared.{entries_compared}
-use Rattle.ask.specs.ReadBy.{Compared, ReadAt, of-header, of_entry, of_row, ReadBy, InLandedRows, AtMostBesideRows}
+use Rattle.ask.specs.ReadBy.{Compared, ReadAt, of_header, of_entry, of_row, ReadBy, InLandedRows, AtMostBesideRows}
 use Rattle.ask.specs.Computed.Ask.{ask_of}
 use Rattle.ask.specs.declared.answer.AskAnswer.TheVariants.{NoFunction}
 use Rattle.ask.proofs.ComparedLaws.{as_many_compared, compared_within}
@@ -41,7 +41,7 @@ module _ (s : List ℕ) (address pc : ℕ) where
 
   -- it never "reads outside the section, accepted or not"
   pub read_inside : (p : ℕ) → ReadBy s address pc p → p < length s
-  read_inside p (of-header span lt) = lt
+  read_inside p (of_header span lt) = lt
   read_inside p (of_entry asked i member span) =
       let there : i < function_count s = rw (← functions_count s) (compared_within d (functions_of s) i member) in
       omega (arith, span.1, entry_inside asked.0 i there, area_inside asked.0)
@@ -50,7 +50,7 @@ module _ (s : List ℕ) (address pc : ℕ) where
   -- 21 says nothing of rows: none is read
   pub no_row_read : (compared : ℕ) → ask_of s address pc ≡ NoFunction compared → (p : ℕ) → ReadBy s address pc p
       → InSpan 0 28 p ⊎ ((i : ℕ) × Compared s d i × InSpan ((layout_of s).table + 20 * i) 20 p)
-  no_row_read compared is p (of-header span lt) = inl span
+  no_row_read compared is p (of_header span lt) = inl span
   no_row_read compared is p (of_entry asked i member span) = inr (i, member, span)
   no_row_read compared is p (of_row i k lands reached span lt) =
       absurd (no_function_means s address pc compared is i lands.landed lands.covered)
@@ -112,7 +112,7 @@ module _ (s : List ℕ) (d : ℤ) where
   when-asked asked = record { places = header_and_entries; few = few-places asked; all = all }
     where
       all : (p : ℕ) → ReadAt s d p → Memᴰ p header_and_entries ⊎ InLandedRows s d p
-      all p (of-header span lt) = inl (Memᴰ.append_left _ (in_span 28 0 p span))
+      all p (of_header span lt) = inl (Memᴰ.append_left _ (in_span 28 0 p span))
       all p (of_entry asked i member span) = inl (Memᴰ.append_right (span_of 0 28) (in_entries (layout_of s).table _ i p member span))
       all p (of_row i k lands reached span lt) = inr (i, k, lands, reached, span)
 
@@ -121,7 +121,7 @@ module _ (s : List ℕ) (d : ℤ) where
   when-not not-asked = record { places = span_of 0 28; few = rw (listed_length (λ p. p) 28 0) (omega arith); all = all }
     where
       all : (p : ℕ) → ReadAt s d p → Memᴰ p (span_of 0 28) ⊎ InLandedRows s d p
-      all p (of-header span lt) = inl (in_span 28 0 p span)
+      all p (of_header span lt) = inl (in_span 28 0 p span)
       all p (of_entry asked i member span) = absurd (not-asked asked)
       all p (of_row i k lands reached span lt) = absurd (not-asked lands.asked)
 

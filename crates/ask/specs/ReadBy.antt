@@ -30,7 +30,7 @@ InRow s i k p = InSpan ((layout_of s).area + row_place_at s i k) (row_length_at 
 -- place p of the section is read
 pub data ReadAt (s : List ℕ) (d : ℤ) (p : ℕ) : Type 0 where
   -- 28 of the header, as far as the section has them
-  of-header : InSpan 0 28 p → p < length s → ReadAt s d p
+  of_header : InSpan 0 28 p → p < length s → ReadAt s d p
   -- 20 of each entry compared
   of_entry : CanBeAsked s → (i : ℕ) → Compared s d i → InSpan ((layout_of s).table + 20 * i) 20 p → ReadAt s d p
   -- where the function landed on covers, its rows up to and with the first faulty one, as far as they lie inside

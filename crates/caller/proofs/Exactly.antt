@@ -30,7 +30,7 @@ use Rattle.lookup.proofs.Exactly as lookup
 use Rattle.caller.specs.Cases.{Rule41, WindowFits, NoMark, Aarch64, Rule24, Rule25, Rule26, Rule27, Rule28, LookedUp, NothingAsked, RowFound, CfaAt, WordsAt, OnRefusal, OnStep, CallerCase, Case}
 use Rattle.caller.specs.Frame.{asked_of, caller_sp, cfa_of_sp}
 use Rattle.caller.specs.InBytes.{SignedInBytes, CallerInBytes}
-use Rattle.caller.specs.Numbers.{Refusal, unfound, signed, cfaOutside, cfaLow, raLost, wordOutside, number_of_refusal, StepCause, window, unsound, refused, number_of_step_cause, step_number, step_indexes, step_registers}
+use Rattle.caller.specs.Numbers.{Refusal, unfound, signed, cfa_outside, cfa_low, ra_lost, word_outside, number_of_refusal, StepCause, window, unsound, refused, number_of_step_cause, step_number, step_indexes, step_registers}
 use Rattle.caller.specs.Computed.Caller.{both_of, if_fits, step_after, look_at, with_values, step_of, step_in}
 use Rattle.caller.specs.declared.place.Values.{Values}
 use Rattle.caller.specs.declared.place.Values.TheVariants.{Both, NoRa, NoFp}
@@ -151,24 +151,24 @@ module _ (s stack : List ℕ) (process : Process) (registers : Registers) where
   pub number_25_exactly_when : (step_number answer ≡ 25)
       ↔ ((row : Row) × RowFound s stack process registers row × ¬ Rule24 (shape_of s) row process × Rule25 registers row)
   unfolding number_of_step_cause number_of_refusal
-  number_25_exactly_when = number_exactly_when (refused cfaOutside)
+  number_25_exactly_when = number_exactly_when (refused cfa_outside)
 
   -- "26: CFA below SP, or equal to SP without the first-frame mark."
   pub number_26_exactly_when : (step_number answer ≡ 26) ↔ ((row : Row) × (cfa : ℕ) × CfaAt s stack process registers row cfa × Rule26 registers cfa)
   unfolding number_of_step_cause number_of_refusal
-  number_26_exactly_when = number_exactly_when (refused cfaLow)
+  number_26_exactly_when = number_exactly_when (refused cfa_low)
 
   -- "27: AArch64, count 1, without the mark."
   pub number_27_exactly_when : (step_number answer ≡ 27)
       ↔ ((row : Row) × (cfa : ℕ) × CfaAt s stack process registers row cfa × ¬ Rule26 registers cfa × Rule27 registers row)
   unfolding number_of_step_cause number_of_refusal
-  number_27_exactly_when = number_exactly_when (refused raLost)
+  number_27_exactly_when = number_exactly_when (refused ra_lost)
 
   -- "28: a needed word (RA first) is not wholly inside the stack window."
   pub number_28_exactly_when : (step_number answer ≡ 28)
       ↔ ((row : Row) × (cfa : ℕ) × WordsAt s stack process registers row cfa × Rule28 stack process row cfa)
   unfolding number_of_step_cause number_of_refusal
-  number_28_exactly_when = number_exactly_when (refused wordOutside)
+  number_28_exactly_when = number_exactly_when (refused word_outside)
 
   -- ---- the caller
 

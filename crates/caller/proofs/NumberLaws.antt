@@ -21,7 +21,7 @@ use Rattle.lookup.proofs.CoveringLaws.{by_value}
 use Rattle.lookup.proofs.NumberLaws.{same_unfound, number_of_unfound_lem}
 use Rattle.caller.specs.Cases.{OnStep, Case, CallerCase}
 use Rattle.caller.specs.Frame.{asked_of, cfa_of, caller_sp}
-use Rattle.caller.specs.Numbers.{Refusal, unfound, signed, cfaOutside, cfaLow, raLost, wordOutside, number_of_refusal, StepCause, window, unsound, refused, number_of_step_cause, step_number}
+use Rattle.caller.specs.Numbers.{Refusal, unfound, signed, cfa_outside, cfa_low, ra_lost, word_outside, number_of_refusal, StepCause, window, unsound, refused, number_of_step_cause, step_number}
 use Rattle.caller.specs.Signature.{mask_of}
 use Rattle.caller.specs.Computed.Caller.{is_maskless, is_low, is_lost, spot_of, values_of, with_finding, unless_maskless, with_cfa, unless_low, unless_lost, with_values, from_spots, from_cfa, from_row, from_finding, look_at, step_of, step_in}
 use Rattle.caller.specs.declared.place.Spot.{Spot}
@@ -37,7 +37,7 @@ use Rattle.caller.proofs.StepLaws.{step_exactly_when}
 
 -- the refusals by a row, from 24 on
 by_row : List Refusal
-by_row = signed ∷ cfaOutside ∷ cfaLow ∷ raLost ∷ wordOutside ∷ []
+by_row = signed ∷ cfa_outside ∷ cfa_low ∷ ra_lost ∷ word_outside ∷ []
 
 abbrev refusal_of : ℕ → Refusal
 unfolding by_row
@@ -53,10 +53,10 @@ at_its_number : (refusal : Refusal) → AtItsNumber refusal
 unfolding refusal_of number_of_refusal
 at_its_number (unfound why) = inl (why, refl)
 at_its_number signed = inr (omega arith, omega arith, refl)
-at_its_number cfaOutside = inr (omega arith, omega arith, refl)
-at_its_number cfaLow = inr (omega arith, omega arith, refl)
-at_its_number raLost = inr (omega arith, omega arith, refl)
-at_its_number wordOutside = inr (omega arith, omega arith, refl)
+at_its_number cfa_outside = inr (omega arith, omega arith, refl)
+at_its_number cfa_low = inr (omega arith, omega arith, refl)
+at_its_number ra_lost = inr (omega arith, omega arith, refl)
+at_its_number word_outside = inr (omega arith, omega arith, refl)
 
 -- 21 to 28
 pub number_of_refusal_lem : (refusal : Refusal) → (21 ≤ number_of_refusal refusal) × (number_of_refusal refusal ≤ 28)

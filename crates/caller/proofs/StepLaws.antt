@@ -24,7 +24,7 @@ use Rattle.lookup.specs.Computed.Answers.{look_in_lem}
 use Rattle.lookup.proofs.CoveringLaws.{by_value, is_true, is_false}
 use Rattle.caller.specs.Cases.{Rule24, Rule25, Rule26, Rule27, Rule41, WindowFits, Outside, LookedUp, NothingAsked, RowFound, CfaAt, WordsAt, OnRefusal, CallerCase, UnsoundCase, RefusedCase, Case}
 use Rattle.caller.specs.Frame.{asked_of, cfa_of, caller_sp}
-use Rattle.caller.specs.Numbers.{Refusal, unfound, signed, cfaOutside, cfaLow, raLost, wordOutside, number_of_refusal, window, number_of_step_cause}
+use Rattle.caller.specs.Numbers.{Refusal, unfound, signed, cfa_outside, cfa_low, ra_lost, word_outside, number_of_refusal, window, number_of_step_cause}
 use Rattle.caller.specs.Signature.{mask_of, clear}
 use Rattle.caller.specs.Computed.Caller.{spot_of, value_of, both_of, values_of, if_fits, step_after, look_at, with_finding, unless_maskless, with_cfa, unless_low, unless_lost, with_values, from_spots, from_cfa, from_row, from_finding, step_of, step_in}
 use Rattle.caller.specs.declared.registers.Asked.{Asked}
@@ -166,10 +166,10 @@ module _ (s stack : List ℕ) (process : Process) (registers : Registers) where
   refusal_given (unfound dispute) h = none-given dispute h
   refusal_given (unfound no_row) h = none-given no_row h
   refusal_given signed h = signed-given h.1 h.2
-  refusal_given cfaOutside h = outside-given h.1 h.2 h.3
-  refusal_given cfaLow h = low-given h.2 h.3
-  refusal_given raLost h = lost-given h.2 h.3 h.4
-  refusal_given wordOutside h = ⊎_elim (ra-outside h.2) (fp-outside h.2) h.3
+  refusal_given cfa_outside h = outside-given h.1 h.2 h.3
+  refusal_given cfa_low h = low-given h.2 h.3
+  refusal_given ra_lost h = lost-given h.2 h.3 h.4
+  refusal_given word_outside h = ⊎_elim (ra-outside h.2) (fp-outside h.2) h.3
 
   refused-given : (number : ℕ) → RefusedCase s stack process registers number → answer ≡ Refused registers number
   unfolding number_of_step_cause
@@ -215,15 +215,15 @@ module _ (s stack : List ℕ) (process : Process) (registers : Registers) where
           first_is = refl;
         },
       ))
-      (λ out. some-refusal wordOutside (row, cfa, h, inr out))
+      (λ out. some-refusal word_outside (row, cfa, h, inr out))
       (value_decided stack process.stack (shape_of s).order cfa registers.fp row.fp))
-      (λ out. some-refusal wordOutside (row, cfa, h, inl out))
+      (λ out. some-refusal word_outside (row, cfa, h, inl out))
       (value_decided stack process.stack (shape_of s).order cfa registers.lr row.ra)
 
   cfa-decided : (row : Row) (cfa : ℕ) → CfaAt s stack process registers row cfa → SomeCase
   cfa-decided row cfa h =
-      by_shown (low_shows registers cfa) (λ low. some-refusal cfaLow (row, cfa, h, low)) λ high.
-      by_shown (lost_shows registers cfa row.ra) (λ lost. some-refusal raLost (row, cfa, h, high, lost)) λ kept.
+      by_shown (low_shows registers cfa) (λ low. some-refusal cfa_low (row, cfa, h, low)) λ high.
+      by_shown (lost_shows registers cfa row.ra) (λ lost. some-refusal ra_lost (row, cfa, h, high, lost)) λ kept.
       words-decided row cfa (record { cfa_at = h; not_26 = high; not_27 = kept })
 
   row_decided : (row : Row) → RowFound s stack process registers row → SomeCase
@@ -231,7 +231,7 @@ module _ (s stack : List ℕ) (process : Process) (registers : Registers) where
       by_shown (maskless_shows (shape_of s) row process) (λ set. some-refusal signed (row, h, set)) λ unset.
       ⊎_elim
       (λ is. cfa-decided row is.0 (record { row_found = h; not_24 = unset; cfa_is = (is.1, is.2) }))
-      (λ out. some-refusal cfaOutside (row, h, unset, out))
+      (λ out. some-refusal cfa_outside (row, h, unset, out))
       (memory_decided (cfa_of registers row))
 
   -- by the PC asked

@@ -18,7 +18,7 @@ use Rattle.accept.specs.Rules.{Obeys}
 use Rattle.lookup.specs.Cases.{NoneCovers, SomeTwoCover, FoundCase, NoRowCase}
 use Rattle.lookup.specs.Numbers.{no_function, dispute, no_row}
 use Rattle.caller.specs.Frame.{asked_of, cfa_of, caller_sp}
-use Rattle.caller.specs.Numbers.{Refusal, unfound, signed, cfaOutside, cfaLow, raLost, wordOutside, number_of_refusal, StepCause, window, unsound, refused, number_of_step_cause}
+use Rattle.caller.specs.Numbers.{Refusal, unfound, signed, cfa_outside, cfa_low, ra_lost, word_outside, number_of_refusal, StepCause, window, unsound, refused, number_of_step_cause}
 use Rattle.caller.specs.Signature.{Signed, mask_of, clear}
 use Rattle.caller.specs.declared.registers.Asked.TheVariants.{At, Nowhere}
 use Rattle.caller.specs.declared.registers.Registers.{Registers}
@@ -146,10 +146,10 @@ module _ (s stack : List ℕ) (process : Process) (registers : Registers) where
   OnRefusal (unfound dispute) = LookedUp (SomeTwoCover s)
   OnRefusal (unfound no_row) = LookedUp (λ d. (i : ℕ) × NoRowCase s d i)
   OnRefusal signed = (row : Row) × RowFound row × Rule24 (shape_of s) row process
-  OnRefusal cfaOutside = (row : Row) × RowFound row × ¬ Rule24 (shape_of s) row process × Rule25 registers row
-  OnRefusal cfaLow = (row : Row) × (cfa : ℕ) × CfaAt row cfa × Rule26 registers cfa
-  OnRefusal raLost = (row : Row) × (cfa : ℕ) × CfaAt row cfa × ¬ Rule26 registers cfa × Rule27 registers row
-  OnRefusal wordOutside = (row : Row) × (cfa : ℕ) × WordsAt row cfa × Rule28 stack process row cfa
+  OnRefusal cfa_outside = (row : Row) × RowFound row × ¬ Rule24 (shape_of s) row process × Rule25 registers row
+  OnRefusal cfa_low = (row : Row) × (cfa : ℕ) × CfaAt row cfa × Rule26 registers cfa
+  OnRefusal ra_lost = (row : Row) × (cfa : ℕ) × CfaAt row cfa × ¬ Rule26 registers cfa × Rule27 registers row
+  OnRefusal word_outside = (row : Row) × (cfa : ℕ) × WordsAt row cfa × Rule28 stack process row cfa
 
   -- what holds where a step gives the number of this cause
   abbrev pub OnStep : StepCause → Type 0

@@ -13,18 +13,18 @@ use Rattle.caller.specs.declared.registers.Step.TheVariants.{Caller, Unsound, Re
 pub data Refusal : Type 0 where
   unfound : Unfound → Refusal
   signed : Refusal
-  cfaOutside : Refusal
-  cfaLow : Refusal
-  raLost : Refusal
-  wordOutside : Refusal
+  cfa_outside : Refusal
+  cfa_low : Refusal
+  ra_lost : Refusal
+  word_outside : Refusal
 
 unfoldable pub number_of_refusal : Refusal → ℕ
 number_of_refusal (unfound why) = number_of_unfound why
 number_of_refusal signed = 24
-number_of_refusal cfaOutside = 25
-number_of_refusal cfaLow = 26
-number_of_refusal raLost = 27
-number_of_refusal wordOutside = 28
+number_of_refusal cfa_outside = 25
+number_of_refusal cfa_low = 26
+number_of_refusal ra_lost = 27
+number_of_refusal word_outside = 28
 
 -- "41 .. Then 1 to 15.", and then the step's own
 pub data StepCause : Type 0 where

@@ -25,7 +25,7 @@ use Rattle.lookup.specs.declared.answer.Outcome.TheVariants as outcome
 use Rattle.lookup.proofs.Exactly as lookups
 use Rattle.caller.specs.Cases.{WindowFits, Outside, Rule24, CfaIs, LookedUp, RowFound, CfaAt, WordsAt}
 use Rattle.caller.specs.Frame.{cfa_of}
-use Rattle.caller.specs.Numbers.{unfound, signed, cfaOutside, cfaLow, raLost, wordOutside, number_of_refusal, window, number_of_step_cause}
+use Rattle.caller.specs.Numbers.{unfound, signed, cfa_outside, cfa_low, ra_lost, word_outside, number_of_refusal, window, number_of_step_cause}
 use Rattle.caller.specs.Computed.Caller.{step_in}
 use Rattle.caller.specs.declared.registers.Process.{Process}
 use Rattle.caller.specs.declared.registers.Registers.{Registers}
@@ -205,10 +205,10 @@ module _ (s stack : List ℕ) (process : Process) (registers : Registers) where
 
     -- 25
     pub cfa_outside_implies : (base : ℕ) (offset : Offset) → WhyCfaOutside s stack process registers found.row base offset
-        → step_in s stack process registers ≡ Refused registers (number_of_refusal cfaOutside)
+        → step_in s stack process registers ≡ Refused registers (number_of_refusal cfa_outside)
     unfolding cfa_of
     cfa_outside_implies base offset why =
-        refusal_given s stack process registers cfaOutside
+        refusal_given s stack process registers cfa_outside
         (_, row_found, why.not_24, rw (← why.base_is, ← why.offset_is) why.outside)
 
     cfa_at : (cfa : ℕ) → ¬ Rule24 (shape_of s) found.row process → CfaIs registers found.row cfa
@@ -217,24 +217,24 @@ module _ (s stack : List ℕ) (process : Process) (registers : Registers) where
 
     -- 26
     pub cfa_low_implies : (callersp sp first : ℕ) → WhyCfaLow s stack process registers found.row callersp sp first
-        → step_in s stack process registers ≡ Refused registers (number_of_refusal cfaLow)
+        → step_in s stack process registers ≡ Refused registers (number_of_refusal cfa_low)
     cfa_low_implies callersp sp first why =
-        refusal_given s stack process registers cfaLow
+        refusal_given s stack process registers cfa_low
         (_, why.cfa, cfa_at why.cfa why.not_24 why.cfa_is, rw (← why.callersp_is, ← why.sp_is, ← why.first_is) why.low)
 
     -- 27
     pub ra_lost_implies : (first : ℕ) → WhyRaLost s stack process registers found.row first
-        → step_in s stack process registers ≡ Refused registers (number_of_refusal raLost)
+        → step_in s stack process registers ≡ Refused registers (number_of_refusal ra_lost)
     ra_lost_implies first why =
-        refusal_given s stack process registers raLost
+        refusal_given s stack process registers ra_lost
         (_, why.cfa, cfa_at why.cfa why.not_24 why.cfa_is, why.not_26, (why.no_place, sym why.first_is ∙ why.unmarked))
 
     -- 28
     pub word_outside_implies : (word : Needed) (cfa : ℕ) (offset : Offset) (lies size : ℕ)
         → WhyWordOutside s stack process registers found.row word cfa offset lies size
-        → step_in s stack process registers ≡ Refused registers (number_of_refusal wordOutside)
+        → step_in s stack process registers ≡ Refused registers (number_of_refusal word_outside)
     word_outside_implies word cfa offset lies size why =
-        refusal_given s stack process registers wordOutside
+        refusal_given s stack process registers word_outside
         (_, cfa, words, by_word word why.needed)
       where
         words : WordsAt s stack process registers found.row cfa

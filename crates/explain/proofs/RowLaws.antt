@@ -8,7 +8,7 @@ use native.Mathlib.Nat.{eq-or-lt_of_le}
 use native.Mathlib.Omega.{arith}
 use lib.IntN.{ℤ}
 use Rattle.accept.specs.Rules.{Obeys, function_count, row_count, row_start_at}
-use Rattle.accept.proofs.AcceptedLaws.{rows_rising}
+use Rattle.accept.proofs.AcceptedLaws.{rows_rising_lem}
 use Rattle.lookup.specs.Cases.{FoundCase, NoRowCase}
 use Rattle.explain.specs.Why.{StartIs, AboveOffset, WhyFound, WhyNoRow}
 use Rattle.explain.specs.declared.why.FoundRow.{FoundRow}
@@ -21,7 +21,7 @@ module _ (s : List ℕ) (obeys : Obeys s) where
   above-behind i o k (Is start) lt (there, is) above j le inside =
       ⊎_elim
       (λ same. rw (← same, ← is) above)
-      (λ less. omega (arith, rows_rising obeys i k j lt less inside))
+      (λ less. omega (arith, rows_rising_lem obeys i k j lt less inside))
       (eq-or-lt_of_le le)
   above-behind i o k Missing lt none above j le inside = absurd (omega arith)
 

@@ -3,7 +3,7 @@ use Rattle.std.specs.Prelude.{ℕ, get_or}
 use Rattle.lookup.specs.Numbers.{no_function, dispute, no_row}
 use Rattle.lookup.specs.declared.answer.Outcome.{Outcome}
 use Rattle.lookup.specs.declared.answer.Outcome.TheVariants as outcome
-use Rattle.caller.specs.Numbers.{unfound, signed, cfaOutside, cfaLow, raLost, wordOutside, number_of_refusal, window, number_of_step_cause}
+use Rattle.caller.specs.Numbers.{unfound, signed, cfa_outside, cfa_low, ra_lost, word_outside, number_of_refusal, window, number_of_step_cause}
 use Rattle.caller.specs.declared.registers.Registers.{Registers}
 use Rattle.caller.specs.declared.registers.Step.{Step}
 use Rattle.caller.specs.declared.registers.Step.TheVariants.{Caller, Unsound, Refused}
@@ -50,10 +50,10 @@ number_missing (missing.NoRow function offset first) = number_of_refusal (unfoun
 unfoldable pub step_row : Registers → RowReason → Step
 step_row registers (row.Caller caller cfa ra) = Caller caller
 step_row registers (row.Signed bit mask) = Refused registers (number_of_refusal signed)
-step_row registers (row.CfaOutside base offset) = Refused registers (number_of_refusal cfaOutside)
-step_row registers (row.CfaLow callersp sp first) = Refused registers (number_of_refusal cfaLow)
-step_row registers (row.RaLost first) = Refused registers (number_of_refusal raLost)
-step_row registers (row.WordOutside word cfa offset lies size) = Refused registers (number_of_refusal wordOutside)
+step_row registers (row.CfaOutside base offset) = Refused registers (number_of_refusal cfa_outside)
+step_row registers (row.CfaLow callersp sp first) = Refused registers (number_of_refusal cfa_low)
+step_row registers (row.RaLost first) = Refused registers (number_of_refusal ra_lost)
+step_row registers (row.WordOutside word cfa offset lies size) = Refused registers (number_of_refusal word_outside)
 
 unfoldable pub step_reason : Registers → StepReason → Step
 step_reason registers (step.Window lies size) = Refused registers (number_of_step_cause window)

@@ -29,7 +29,7 @@ use Rattle.lookup.specs.declared.answer.Outcome.{Outcome}
 use Rattle.lookup.specs.declared.answer.Outcome.TheVariants.{Found, Unsound, NoFunction, Dispute, NoRow}
 use Rattle.lookup.specs.declared.rows.Scan.{Scan}
 use Rattle.lookup.specs.declared.rows.Scan.TheVariants.{Missed, Hit}
-use Rattle.lookup.proofs.CoveringLaws.{unless_true, is_true, covers_shows, covers_at, NoneAt, OnlyAt, LowestAt, none_cover, one_covers, two_cover, Coverage, no_one, just-one, two-or-more, cover_cases}
+use Rattle.lookup.proofs.CoveringLaws.{unless_true, is_true, covers_shows, covers_at, NoneAt, OnlyAt, LowestAt, none_cover, one_covers, two_cover, Coverage, no_one, just_one, two_or_more, cover_cases}
 use Rattle.lookup.proofs.LastRowLaws.{last_none, last_is, row_cases}
 use Rattle.lookup.proofs.OffsetWithinLaws.{offset_is, offset_unique}
 
@@ -72,16 +72,16 @@ module _ (s : List ℕ) (d : ℤ) where
 
   -- none covers, one does, or two or more do
   data CoverCase : Type 0 where
-    none-covers : NoneCovers s d → CoverCase
-    only-covers : (i : ℕ) → OnlyCovers s d i → CoverCase
-    lowest-cover : (i j : ℕ) → LowestTwo s d i j → CoverCase
+    none_covers : NoneCovers s d → CoverCase
+    only_covers : (i : ℕ) → OnlyCovers s d i → CoverCase
+    lowest_cover : (i j : ℕ) → LowestTwo s d i j → CoverCase
 
   cover-of : Coverage d (functions_of s) → CoverCase
-  cover-of (no_one none) = none-covers (λ i h. true≢false (sym (covers_at_lem i h) ∙ none i (in_list i h)))
-  cover-of (just-one i h) = only-covers i (at_covers i h.0 h.1, λ j other. h.2 j (in_list j other) (covers_at_lem j other))
-  cover-of (two-or-more i j h) =
+  cover-of (no_one none) = none_covers (λ i h. true≢false (sym (covers_at_lem i h) ∙ none i (in_list i h)))
+  cover-of (just_one i h) = only_covers i (at_covers i h.0 h.1, λ j other. h.2 j (in_list j other) (covers_at_lem j other))
+  cover-of (two_or_more i j h) =
       let (less, lt, here, there, only) = h in
-      lowest-cover i j (less, at_covers i (omega arith) here, at_covers j lt there, λ k before other. only k before (covers_at_lem k other))
+      lowest_cover i j (less, at_covers i (omega arith) here, at_covers j lt there, λ k before other. only k before (covers_at_lem k other))
 
   cover-decided : CoverCase
   cover-decided = cover-of (cover_cases d (functions_of s))
@@ -144,9 +144,9 @@ module _ (s : List ℕ) (d : ℤ) where
         (rows_decided s i offset)
 
     some_case : CoverCase s d → (o : Outcome) × Case s d o
-    some_case (none-covers h) = (NoFunction, h)
-    some_case (only-covers i h) = row-case i h
-    some_case (lowest-cover i j h) = (Dispute i j, h)
+    some_case (none_covers h) = (NoFunction, h)
+    some_case (only_covers i h) = row-case i h
+    some_case (lowest_cover i j h) = (Dispute i j, h)
 
     pub outcome_exactly_when : (o : Outcome) → (outcome d (functions_of s) ≡ o) ↔ Case s d o
     outcome_exactly_when o = (
@@ -183,9 +183,9 @@ module _ (s : List ℕ) (d : ℤ) where
 
   -- where two cover, there are the two lowest that do
   lowest-of : SomeTwoCover s d → CoverCase s d → (i : ℕ) × (j : ℕ) × LowestTwo s d i j
-  lowest-of two (none-covers h) = absurd (h _ two.3)
-  lowest-of two (only-covers i h) = let (a, b, less, here, there) = two in absurd (omega (arith, h.1 a here, h.1 b there))
-  lowest-of two (lowest-cover i j h) = (i, j, h)
+  lowest-of two (none_covers h) = absurd (h _ two.3)
+  lowest-of two (only_covers i h) = let (a, b, less, here, there) = two in absurd (omega (arith, h.1 a here, h.1 b there))
+  lowest-of two (lowest_cover i j h) = (i, j, h)
 
   pub lowest_two : SomeTwoCover s d → (i : ℕ) × (j : ℕ) × LowestTwo s d i j
   lowest_two two = lowest-of two (cover-decided s d)

@@ -163,8 +163,8 @@ module _ (d : ℤ) (fs : List Function) where
 
 pub data Coverage (d : ℤ) (fs : List Function) : Type 0 where
   no_one : NoneAt d fs → Coverage d fs
-  just-one : (i : ℕ) → OnlyAt d fs i → Coverage d fs
-  two-or-more : (i j : ℕ) → LowestAt d fs i j → Coverage d fs
+  just_one : (i : ℕ) → OnlyAt d fs i → Coverage d fs
+  two_or_more : (i j : ℕ) → LowestAt d fs i j → Coverage d fs
 
 -- the one with index i covers, and none before it does
 record FirstAt (d : ℤ) (fs : List Function) (i : ℕ) : Type 0 where
@@ -180,7 +180,7 @@ module _ (d : ℤ) (fs : List Function) where
 
   only-or-lowest : (i : ℕ) → FirstAt d fs i → Coverage d fs
   only-or-lowest i first =
-      ⊎_elim (λ only. just-one i (first.inside, first.here, only)) (λ h. two-or-more i h.0 h.1) (in_turn (length fs) turn)
+      ⊎_elim (λ only. just_one i (first.inside, first.here, only)) (λ h. two_or_more i h.0 h.1) (in_turn (length fs) turn)
     where
       up-to-i : (k : ℕ) → k ≤ i → covers_at d fs k ≡ true → k ≡ i
       up-to-i k le e = ⊎_elim (λ same. same) (λ less. absurd (true≢false (sym e ∙ first.before k less))) (eq-or-lt_of_le le)

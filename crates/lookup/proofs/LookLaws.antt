@@ -25,7 +25,7 @@ use Rattle.lookup.specs.Computed.Rows.{in_block, offset_within}
 use Rattle.lookup.specs.Inner.Requires.{HeaderOf, AcceptedOf, RowAsked}
 use Rattle.lookup.specs.declared.search.Cover.{Cover}
 use Rattle.lookup.specs.declared.search.Cover.TheVariants.{Nobody, One, Two}
-use Rattle.lookup.proofs.CoveringLaws.{by_value, OnlyAt, none_cover, one_covers, two_cover, Coverage, no_one, just-one, two-or-more, cover_cases}
+use Rattle.lookup.proofs.CoveringLaws.{by_value, OnlyAt, none_cover, one_covers, two_cover, Coverage, no_one, just_one, two_or_more, cover_cases}
 
 -- an accepted section has a sound header
 pub accepted_header : {s : List ℕ} {layout : Layout} → AcceptedOf s layout → HeaderOf s layout
@@ -50,10 +50,10 @@ unfolding many the_one
 by_coverage d fs i e (no_one none) =
     let clash : ◌≡◌ {A = ℕ} 0 1 = ap many (sym (none_cover d fs none) ∙ e) in
     absurd (omega arith)
-by_coverage d fs i e (just-one k only) =
+by_coverage d fs i e (just_one k only) =
     let same : k ≡ i = ap the_one (sym (one_covers d fs k only) ∙ e) in
     rw same at only
-by_coverage d fs i e (two-or-more k j lowest) =
+by_coverage d fs i e (two_or_more k j lowest) =
     let clash : ◌≡◌ {A = ℕ} 2 1 = ap many (sym (two_cover d fs k j lowest) ∙ e) in
     absurd (omega arith)
 

@@ -21,7 +21,7 @@ use Rattle.section.proofs.RowAgreement.{start_agrees, length_agrees, row_agrees}
 use Rattle.accept.specs.Computed.Checks.{entry_fault}
 use Rattle.accept.specs.declared.verdict.Fault.TheVariants.{Sound}
 use Rattle.accept.proofs.RowLaws.{entry_readable}
-use Rattle.lookup.specs.Scanned.{start_in, RowPassed, LastPassed, StopsAt, LookedAt, of-passed, of-found, of-stop}
+use Rattle.lookup.specs.Scanned.{start_in, RowPassed, LastPassed, StopsAt, LookedAt, of_passed, of_found, of_stop}
 use Rattle.lookup.specs.Computed.Rows.{last_row}
 use Rattle.lookup.specs.Inner.Search.{stop_of}
 use Rattle.lookup.proofs.CoveringLaws.{by_value}
@@ -77,9 +77,9 @@ module _ (area : List ℕ) (order : Order) (code first count o : ℕ) where
 pub looked_at_in_rows : {area : List ℕ} {order : Order} {code first count o : ℕ} (p : ℕ) → LookedAt area order code first count o p
     → (k : ℕ) × (k < count) × InSpan (row_place area code first k) (row_length area code (row_place area code first k)) p
 unfolding row_length
-looked_at_in_rows p (of-passed k row span) = (k, row.0, (span.0, omega (arith, span.1)))
-looked_at_in_rows p (of-found k last span) = (k, last.0.0, span)
-looked_at_in_rows p (of-stop k stop span) = (k, stop.0, (span.0, omega (arith, span.1)))
+looked_at_in_rows p (of_passed k row span) = (k, row.0, (span.0, omega (arith, span.1)))
+looked_at_in_rows p (of_found k last span) = (k, last.0.0, span)
+looked_at_in_rows p (of_stop k stop span) = (k, stop.0, (span.0, omega (arith, span.1)))
 
 -- ---- two row areas that agree on what the scan of the first looks at
 
@@ -88,7 +88,7 @@ module _ (area other : List ℕ) (order : Order) (code first count o : ℕ) (sam
   rows = (stop_of area order code first count o).rows
 
   fixed : (k : ℕ) → k < rows → AgreeOn (InSpan (row_place area code first k) (2 ^ code + 1)) area other
-  fixed k lt p said = same p (of-passed k (is-passed area order code first count o k lt) said)
+  fixed k lt p said = same p (of_passed k (is-passed area order code first count o k lt) said)
 
   -- up to the row at which it stops, rows stand at the same places
   pub place_agrees : (k : ℕ) → k ≤ rows → row_place area code first k ≡ row_place other code first k
@@ -113,7 +113,7 @@ module _ (area other : List ℕ) (order : Order) (code first count o : ℕ) (sam
             rw (← alike) (here.below j le lt);
         stop = λ lt.
             let stop = (stops_exactly_when area order code first count o rows).1 (refl, lt) in
-            let alike = start-same rows (omega arith) (λ p said. same p (of-stop rows stop said)) in
+            let alike = start-same rows (omega arith) (λ p said. same p (of_stop rows stop said)) in
             rw (← alike) (here.stop lt);
       }
 
@@ -129,7 +129,7 @@ module _ (area other : List ℕ) (order : Order) (code first count o : ℕ) (sam
     found_at = place_agrees k (omega (arith, (last_passed_exactly_when area order code first count o k).0 last))
 
     found : AgreeOn (InSpan (row_place area code first k) (row_length area code (row_place area code first k))) area other
-    found p said = same p (of-found k last said)
+    found p said = same p (of_found k last said)
 
     pub found_bytes_agree : take (row_length area code (row_place area code first k)) (drop (row_place area code first k) area)
         ≡ take (row_length other code (row_place other code first k)) (drop (row_place other code first k) other)

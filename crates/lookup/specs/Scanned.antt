@@ -31,13 +31,13 @@ StopsAt area order code first count o k =
 -- byte p of the row area is looked at
 pub data LookedAt (area : List ℕ) (order : Order) (code first count o p : ℕ) : Type 0 where
   -- of each row passed: its start and its info byte, which tells its length
-  of-passed : (k : ℕ) → RowPassed area order code first count o k → InSpan (row_place area code first k) (2 ^ code + 1) p
+  of_passed : (k : ℕ) → RowPassed area order code first count o k → InSpan (row_place area code first k) (2 ^ code + 1) p
       → LookedAt area order code first count o p
   -- of the row found: all
-  of-found : (k : ℕ) → LastPassed area order code first count o k
+  of_found : (k : ℕ) → LastPassed area order code first count o k
       → InSpan (row_place area code first k) (row_length area code (row_place area code first k)) p → LookedAt area order code first count o p
   -- of the row that it stops at: its start
-  of-stop : (k : ℕ) → StopsAt area order code first count o k → InSpan (row_place area code first k) (2 ^ code) p
+  of_stop : (k : ℕ) → StopsAt area order code first count o k → InSpan (row_place area code first k) (2 ^ code) p
       → LookedAt area order code first count o p
 
 -- ---- a whole section

@@ -7,15 +7,15 @@ use Prim.Native.Nat.{ℕ, zero, suc, ◌≤◌, ◌<◌}
 use native.Mathlib.Omega.{arith}
 use lib.IntN.{ℤ}
 use lib.ListN.{length, get_or}
-use Rattle.accept.specs.Given.{Rule, short, long, magic, version, flags, abi, fixed, sizes, entryInfo, repeatSize, rowsInside, rowInfo, rowsRising, sorted, rowSum, number_of_rule}
+use Rattle.accept.specs.Given.{Rule, short, long, magic, version, flags, abi, fixed, sizes, entry_info, repeat_size, rows_inside, row_info, rows_rising, sorted, row_sum, number_of_rule}
 use Rattle.lookup.specs.Numbers as lookup
 use Rattle.lookup.specs.Numbers.{Unfound, no_function, dispute, no_row, number_of_unfound, LookupCause, number_of_lookup_cause}
 use Rattle.ask.specs.Cases.{OnAsk}
 use Rattle.ask.specs.Numbers as ask
 use Rattle.ask.specs.Numbers.{AskCause, number_of_unanswered, number_of_ask_cause}
 use Rattle.caller.specs.Numbers as step
-use Rattle.caller.specs.Numbers.{Refusal, unfound, signed, cfaOutside, cfaLow, raLost, wordOutside, number_of_refusal, StepCause, number_of_step_cause}
-use Rattle.trace.specs.Numbers.{TraceCause, window, limitAbove, tooFewWords, unsound, refused, outermost, full, number_of_trace_cause}
+use Rattle.caller.specs.Numbers.{Refusal, unfound, signed, cfa_outside, cfa_low, ra_lost, word_outside, number_of_refusal, StepCause, number_of_step_cause}
+use Rattle.trace.specs.Numbers.{TraceCause, window, limit_above, too_few_words, unsound, refused, outermost, full, number_of_trace_cause}
 use Rattle.promises.specs.Refusals.{every_rule, every_unfound, every_lookup_cause, every_header_rule, every_ask_cause, every_refusal, every_step_cause, every_trace_cause}
 
 -- ---- every cause is listed
@@ -35,13 +35,13 @@ every_rule_lem flags = at_place every_rule 4 short (omega arith)
 every_rule_lem abi = at_place every_rule 5 short (omega arith)
 every_rule_lem fixed = at_place every_rule 6 short (omega arith)
 every_rule_lem sizes = at_place every_rule 7 short (omega arith)
-every_rule_lem entryInfo = at_place every_rule 8 short (omega arith)
-every_rule_lem repeatSize = at_place every_rule 9 short (omega arith)
-every_rule_lem rowsInside = at_place every_rule 10 short (omega arith)
-every_rule_lem rowInfo = at_place every_rule 11 short (omega arith)
-every_rule_lem rowsRising = at_place every_rule 12 short (omega arith)
+every_rule_lem entry_info = at_place every_rule 8 short (omega arith)
+every_rule_lem repeat_size = at_place every_rule 9 short (omega arith)
+every_rule_lem rows_inside = at_place every_rule 10 short (omega arith)
+every_rule_lem row_info = at_place every_rule 11 short (omega arith)
+every_rule_lem rows_rising = at_place every_rule 12 short (omega arith)
 every_rule_lem sorted = at_place every_rule 13 short (omega arith)
-every_rule_lem rowSum = at_place every_rule 14 short (omega arith)
+every_rule_lem row_sum = at_place every_rule 14 short (omega arith)
 
 every_unfound_lem : (why : Unfound) → Mem why every_unfound
 unfolding every_unfound
@@ -65,13 +65,13 @@ every_header_rule_lem flags le = at_place every_header_rule 4 short (omega arith
 every_header_rule_lem abi le = at_place every_header_rule 5 short (omega arith)
 every_header_rule_lem fixed le = at_place every_header_rule 6 short (omega arith)
 every_header_rule_lem sizes le = at_place every_header_rule 7 short (omega arith)
-every_header_rule_lem entryInfo le = absurd (omega arith)
-every_header_rule_lem repeatSize le = absurd (omega arith)
-every_header_rule_lem rowsInside le = absurd (omega arith)
-every_header_rule_lem rowInfo le = absurd (omega arith)
-every_header_rule_lem rowsRising le = absurd (omega arith)
+every_header_rule_lem entry_info le = absurd (omega arith)
+every_header_rule_lem repeat_size le = absurd (omega arith)
+every_header_rule_lem rows_inside le = absurd (omega arith)
+every_header_rule_lem row_info le = absurd (omega arith)
+every_header_rule_lem rows_rising le = absurd (omega arith)
 every_header_rule_lem sorted le = absurd (omega arith)
-every_header_rule_lem rowSum le = absurd (omega arith)
+every_header_rule_lem row_sum le = absurd (omega arith)
 
 -- so every cause that can hold of an asked address is listed
 unanswereds : List AskCause
@@ -91,7 +91,7 @@ every_ask_cause_lem s d (ask.unanswered ask.unsorted) on = by_answer 3 (omega ar
 
 -- the refusals by a row
 by_row : List Refusal
-by_row = signed ∷ cfaOutside ∷ cfaLow ∷ raLost ∷ wordOutside ∷ []
+by_row = signed ∷ cfa_outside ∷ cfa_low ∷ ra_lost ∷ word_outside ∷ []
 
 by_row_lem : (k : ℕ) → k < 5 → Mem (get_or by_row k signed) every_refusal
 unfolding every_refusal by_row
@@ -101,10 +101,10 @@ pub every_refusal_lem : (refusal : Refusal) → Mem refusal every_refusal
 unfolding every_refusal by_row
 every_refusal_lem (unfound why) = mem-append_left _ (mem-map_of_mem unfound (every_unfound_lem why))
 every_refusal_lem signed = by_row_lem 0 (omega arith)
-every_refusal_lem cfaOutside = by_row_lem 1 (omega arith)
-every_refusal_lem cfaLow = by_row_lem 2 (omega arith)
-every_refusal_lem raLost = by_row_lem 3 (omega arith)
-every_refusal_lem wordOutside = by_row_lem 4 (omega arith)
+every_refusal_lem cfa_outside = by_row_lem 1 (omega arith)
+every_refusal_lem cfa_low = by_row_lem 2 (omega arith)
+every_refusal_lem ra_lost = by_row_lem 3 (omega arith)
+every_refusal_lem word_outside = by_row_lem 4 (omega arith)
 
 pub every_step_cause_lem : (cause : StepCause) → Mem cause every_step_cause
 unfolding every_step_cause
@@ -115,7 +115,7 @@ every_step_cause_lem (step.refused refusal) =
 
 -- a trace's alone
 others : List TraceCause
-others = outermost ∷ full ∷ window ∷ limitAbove ∷ tooFewWords ∷ []
+others = outermost ∷ full ∷ window ∷ limit_above ∷ too_few_words ∷ []
 
 other : (k : ℕ) → k < 5 → Mem (get_or others k window) every_trace_cause
 unfolding every_trace_cause others
@@ -124,8 +124,8 @@ other k lt = mem-append_right (map unsound every_rule) (mem-append_right (map re
 pub every_trace_cause_lem : (cause : TraceCause) → Mem cause every_trace_cause
 unfolding every_trace_cause others
 every_trace_cause_lem window = other 2 (omega arith)
-every_trace_cause_lem limitAbove = other 3 (omega arith)
-every_trace_cause_lem tooFewWords = other 4 (omega arith)
+every_trace_cause_lem limit_above = other 3 (omega arith)
+every_trace_cause_lem too_few_words = other 4 (omega arith)
 every_trace_cause_lem (unsound rule) = mem-append_left _ (mem-map_of_mem unsound (every_rule_lem rule))
 every_trace_cause_lem (refused refusal) =
     mem-append_right (map unsound every_rule) (mem-append_left _ (mem-map_of_mem refused (every_refusal_lem refusal)))

@@ -19,7 +19,7 @@ use Rattle.accept.specs.Rules.{function_count}
 use Rattle.accept.specs.Computed.Checks.{verdict}
 use Rattle.accept.specs.declared.verdict.Verdict.TheVariants.{Accepted}
 use Rattle.lookup.specs.Cases.{Covers, OffsetIs}
-use Rattle.lookup.specs.Scanned.{start_in, LookAlike, LookedAt, of-passed, of-found, of-stop}
+use Rattle.lookup.specs.Scanned.{start_in, LookAlike, LookedAt, of_passed, of_found, of_stop}
 use Rattle.lookup.specs.Computed.Answers.{lookup_of}
 use Rattle.lookup.specs.declared.answer.Outcome.{Outcome}
 use Rattle.lookup.specs.declared.answer.Outcome.TheVariants.{Found, Unsound, NoFunction, Dispute, NoRow}
@@ -72,19 +72,19 @@ offset_four offset = offset_unique offset
 -- byte 2 of the row area, the first row's offset, is not looked at
 not_looked_at : (i o p : ℕ) → Covers section_s d i → OffsetIs section_s d i o → Looked i o p → ¬ (p ≡ 2)
 unfolding lookup_opened section_s function_count
-not_looked_at zero o p covered offset (of-passed zero row span) is = let below : p < 2 = span.1 in omega arith
-not_looked_at zero o p covered offset (of-passed (suc zero) row span) is = let from : 3 ≤ p = span.0 in omega arith
-not_looked_at zero o p covered offset (of-passed (suc (suc k)) row span) is = let inside : suc (suc k) < 2 = row.0 in omega arith
-not_looked_at zero o p covered offset (of-found zero last span) is =
+not_looked_at zero o p covered offset (of_passed zero row span) is = let below : p < 2 = span.1 in omega arith
+not_looked_at zero o p covered offset (of_passed (suc zero) row span) is = let from : 3 ≤ p = span.0 in omega arith
+not_looked_at zero o p covered offset (of_passed (suc (suc k)) row span) is = let inside : suc (suc k) < 2 = row.0 in omega arith
+not_looked_at zero o p covered offset (of_found zero last span) is =
     let both = last.1 1 (omega arith, λ j le. rw (offset_four offset) (starts j (omega arith))) in
     omega arith
-not_looked_at zero o p covered offset (of-found (suc zero) last span) is = let from : 3 ≤ p = span.0 in omega arith
-not_looked_at zero o p covered offset (of-found (suc (suc k)) last span) is = let inside : suc (suc k) < 2 = last.0.0 in omega arith
-not_looked_at zero o p covered offset (of-stop zero stop span) is = let above : o < 0 = stop.1 in omega arith
-not_looked_at zero o p covered offset (of-stop (suc zero) stop span) is =
+not_looked_at zero o p covered offset (of_found (suc zero) last span) is = let from : 3 ≤ p = span.0 in omega arith
+not_looked_at zero o p covered offset (of_found (suc (suc k)) last span) is = let inside : suc (suc k) < 2 = last.0.0 in omega arith
+not_looked_at zero o p covered offset (of_stop zero stop span) is = let above : o < 0 = stop.1 in omega arith
+not_looked_at zero o p covered offset (of_stop (suc zero) stop span) is =
     let above : o < 4 = stop.1 in
     omega (arith, offset_four offset)
-not_looked_at zero o p covered offset (of-stop (suc (suc k)) stop span) is = let inside : suc (suc k) < 2 = stop.0 in omega arith
+not_looked_at zero o p covered offset (of_stop (suc (suc k)) stop span) is = let inside : suc (suc k) < 2 = stop.0 in omega arith
 not_looked_at (suc zero) o p covered offset looked is = absurd covered.1.le
 not_looked_at (suc (suc i)) o p covered offset looked is = let inside : suc (suc i) < 2 = covered.0 in omega arith
 

@@ -1,19 +1,19 @@
 -- Every number, call by call: the causes of each call, in the order of their numbers. When each is given stands in the layers: `Given` of the
 -- crate accept for a check, `OnLookup`, `OnStep` and `OnTrace` for the others, each nested in the one before, and `OnAsk`.
 use Rattle.std.specs.Prelude.{List, [], ◌∷◌, ◌++◌, map}
-use Rattle.accept.specs.Given.{Rule, short, long, magic, version, flags, abi, fixed, sizes, entryInfo, repeatSize, rowsInside, rowInfo, rowsRising, sorted, rowSum}
+use Rattle.accept.specs.Given.{Rule, short, long, magic, version, flags, abi, fixed, sizes, entry_info, repeat_size, rows_inside, row_info, rows_rising, sorted, row_sum}
 use Rattle.lookup.specs.Numbers as lookup
 use Rattle.lookup.specs.Numbers.{Unfound, no_function, dispute, no_row, LookupCause}
 use Rattle.ask.specs.Numbers as ask
 use Rattle.ask.specs.Numbers.{AskCause}
 use Rattle.caller.specs.Numbers as step
-use Rattle.caller.specs.Numbers.{Refusal, unfound, signed, cfaOutside, cfaLow, raLost, wordOutside, StepCause}
-use Rattle.trace.specs.Numbers.{TraceCause, window, limitAbove, tooFewWords, unsound, refused, outermost, full}
+use Rattle.caller.specs.Numbers.{Refusal, unfound, signed, cfa_outside, cfa_low, ra_lost, word_outside, StepCause}
+use Rattle.trace.specs.Numbers.{TraceCause, window, limit_above, too_few_words, unsound, refused, outermost, full}
 
 -- a check's: 1 to 15
 unfoldable pub every_rule : List Rule
 every_rule =
-    short ∷ long ∷ magic ∷ version ∷ flags ∷ abi ∷ fixed ∷ sizes ∷ entryInfo ∷ repeatSize ∷ rowsInside ∷ rowInfo ∷ rowsRising ∷ sorted ∷ rowSum
+    short ∷ long ∷ magic ∷ version ∷ flags ∷ abi ∷ fixed ∷ sizes ∷ entry_info ∷ repeat_size ∷ rows_inside ∷ row_info ∷ rows_rising ∷ sorted ∷ row_sum
     ∷ []
 
 -- 21 to 23
@@ -36,7 +36,7 @@ every_ask_cause =
 
 -- a step's own: 21 to 28
 unfoldable pub every_refusal : List Refusal
-every_refusal = map unfound every_unfound ++ (signed ∷ cfaOutside ∷ cfaLow ∷ raLost ∷ wordOutside ∷ [])
+every_refusal = map unfound every_unfound ++ (signed ∷ cfa_outside ∷ cfa_low ∷ ra_lost ∷ word_outside ∷ [])
 
 -- a step's: 1 to 15, 21 to 28, 41
 unfoldable pub every_step_cause : List StepCause
@@ -44,4 +44,4 @@ every_step_cause = map step.unsound every_rule ++ (map step.refused every_refusa
 
 -- a trace's, and all that document 01 has: 1 to 15, 21 to 28, 30, 31, 41 to 43
 unfoldable pub every_trace_cause : List TraceCause
-every_trace_cause = map unsound every_rule ++ (map refused every_refusal ++ (outermost ∷ full ∷ window ∷ limitAbove ∷ tooFewWords ∷ []))
+every_trace_cause = map unsound every_rule ++ (map refused every_refusal ++ (outermost ∷ full ∷ window ∷ limit_above ∷ too_few_words ∷ []))

@@ -18,19 +18,19 @@ use Rattle.promises.specs.Calls.{Calls}
 -- ---- a row: a section, what is asked of it, and the reply
 
 pub data Question : Type 0 where
-  askCheck : Question
+  ask_check : Question
   -- the section's address and PC
-  askLookup : ℕ → ℕ → Question
+  ask_lookup : ℕ → ℕ → Question
   -- the stack window, what is known of the process, and the registers
-  askCaller : List ℕ → Process → Registers → Question
+  ask_caller : List ℕ → Process → Registers → Question
   -- these, the limit and what the buffer holds
-  askTrace : List ℕ → Process → Registers → ℕ → List ℕ → Question
+  ask_trace : List ℕ → Process → Registers → ℕ → List ℕ → Question
 
 pub data Reply : Type 0 where
-  aVerdict : Verdict → Reply
-  anAnswer : Answer → Reply
-  aStep : Step → Reply
-  aTrace : TraceReply → Reply
+  a_verdict : Verdict → Reply
+  an_answer : Answer → Reply
+  a_step : Step → Reply
+  a_trace : TraceReply → Reply
 
 pub record Agreed : Type 0 where
   pub section : List ℕ
@@ -38,10 +38,10 @@ pub record Agreed : Type 0 where
   pub expected : Reply
 
 unfoldable pub reply_to : Calls → List ℕ → Question → Reply
-reply_to calls s askCheck = aVerdict (calls.check s)
-reply_to calls s (askLookup address pc) = anAnswer (calls.lookup s address pc)
-reply_to calls s (askCaller stack process registers) = aStep (calls.step s stack process registers)
-reply_to calls s (askTrace stack process registers limit old) = aTrace (calls.trace s stack process registers limit old)
+reply_to calls s ask_check = a_verdict (calls.check s)
+reply_to calls s (ask_lookup address pc) = an_answer (calls.lookup s address pc)
+reply_to calls s (ask_caller stack process registers) = a_step (calls.step s stack process registers)
+reply_to calls s (ask_trace stack process registers limit old) = a_trace (calls.trace s stack process registers limit old)
 
 -- these calls reply to every row of a table as it expects
 abbrev pub Holds : Calls → List Agreed → Type 0
@@ -55,7 +55,7 @@ unfoldable pub loaded : ℕ → Process
 loaded mask = record { section = 0x400000; stack = 0x7000; mask = mask }
 
 unfoldable pub at : ℕ → Question
-at pc = askLookup 0x400000 pc
+at pc = ask_lookup 0x400000 pc
 
 -- "64 bytes, all zero but the word 0x401008 at 0x7000"
 unfoldable pub stack_window : List ℕ
@@ -73,36 +73,36 @@ agreed section question expected = record { section = section; question = questi
 unfoldable pub table : (mask lr first a b c d e f : ℕ) → List Agreed
 table mask lr first a b c d e f =
     -- "K1: S is accepted."
-    agreed section_s askCheck (aVerdict Accepted)
+    agreed section_s ask_check (a_verdict Accepted)
     -- "K2: the first 77 bytes, 8."
-    ∷ agreed (take 77 section_s) askCheck (aVerdict (Refused 8 0))
+    ∷ agreed (take 77 section_s) ask_check (a_verdict (Refused 8 0))
     -- "K3: 27 bytes, 1."
-    ∷ agreed (take 27 section_s) askCheck (aVerdict (Refused 1 0))
+    ∷ agreed (take 27 section_s) ask_check (a_verdict (Refused 1 0))
     -- "K4: PC 0x401003, CFA = SP + 8, count 2."
-    ∷ agreed section_s (at 0x401003) (anAnswer (record { outcome = Found at_entry 0 0; compared = 2 }))
+    ∷ agreed section_s (at 0x401003) (an_answer (record { outcome = Found at_entry 0 0; compared = 2 }))
     -- "K5: 0x401004 and 0x40101f, CFA = FP + 16, FP at CFA - 16."
-    ∷ agreed section_s (at 0x401004) (anAnswer (record { outcome = Found with_frame 0 1; compared = 2 }))
-    ∷ agreed section_s (at 0x40101f) (anAnswer (record { outcome = Found with_frame 0 1; compared = 2 }))
+    ∷ agreed section_s (at 0x401004) (an_answer (record { outcome = Found with_frame 0 1; compared = 2 }))
+    ∷ agreed section_s (at 0x40101f) (an_answer (record { outcome = Found with_frame 0 1; compared = 2 }))
     -- "K6: 0x400fff, 0x401020 and 0x40103f, 21."
-    ∷ agreed section_s (at 0x400fff) (anAnswer (record { outcome = NoFunction; compared = 2 }))
-    ∷ agreed section_s (at 0x401020) (anAnswer (record { outcome = NoFunction; compared = 2 }))
-    ∷ agreed section_s (at 0x40103f) (anAnswer (record { outcome = NoFunction; compared = 2 }))
+    ∷ agreed section_s (at 0x400fff) (an_answer (record { outcome = NoFunction; compared = 2 }))
+    ∷ agreed section_s (at 0x401020) (an_answer (record { outcome = NoFunction; compared = 2 }))
+    ∷ agreed section_s (at 0x40103f) (an_answer (record { outcome = NoFunction; compared = 2 }))
     -- "K7: 0x401040, second function, count 1."
-    ∷ agreed section_s (at 0x401040) (anAnswer (record { outcome = Found at_entry 1 0; compared = 1 }))
+    ∷ agreed section_s (at 0x401040) (an_answer (record { outcome = Found at_entry 1 0; compared = 1 }))
     -- "K8: S with second start 0x101f, 14"
-    ∷ agreed overlapping_s askCheck (aVerdict (Refused 14 1))
+    ∷ agreed overlapping_s ask_check (a_verdict (Refused 14 1))
     -- "K9: the same with flags 00 is accepted, and PC 0x40101f is 22."
-    ∷ agreed unsorted_s askCheck (aVerdict Accepted)
-    ∷ agreed unsorted_s (at 0x40101f) (anAnswer (record { outcome = Dispute 0 1; compared = 2 }))
+    ∷ agreed unsorted_s ask_check (a_verdict Accepted)
+    ∷ agreed unsorted_s (at 0x40101f) (an_answer (record { outcome = Dispute 0 1; compared = 2 }))
     -- "K10: .. limit 2. Words 0x7008, 0x401008, 0x7030, 0x7040, 0, 0; two frames, ending 30."
-    ∷ agreed section_s (askTrace stack_window (loaded mask) (crashed lr first) 2 (a ∷ b ∷ c ∷ d ∷ e ∷ f ∷ []))
-    (aTrace (traced_as (record { ending = ending.Outermost; frames = 2 }) (0x7008 ∷ 0x401008 ∷ 0x7030 ∷ 0x7040 ∷ 0 ∷ 0 ∷ [])))
+    ∷ agreed section_s (ask_trace stack_window (loaded mask) (crashed lr first) 2 (a ∷ b ∷ c ∷ d ∷ e ∷ f ∷ []))
+    (a_trace (traced_as (record { ending = ending.Outermost; frames = 2 }) (0x7008 ∷ 0x401008 ∷ 0x7030 ∷ 0x7040 ∷ 0 ∷ 0 ∷ [])))
     -- "K11: limit 1, one frame, 31."
-    ∷ agreed section_s (askTrace stack_window (loaded mask) (crashed lr first) 1 (a ∷ b ∷ c ∷ []))
-    (aTrace (traced_as (record { ending = ending.Full; frames = 1 }) (0x7008 ∷ 0x401008 ∷ 0x7030 ∷ [])))
+    ∷ agreed section_s (ask_trace stack_window (loaded mask) (crashed lr first) 1 (a ∷ b ∷ c ∷ []))
+    (a_trace (traced_as (record { ending = ending.Full; frames = 1 }) (0x7008 ∷ 0x401008 ∷ 0x7030 ∷ [])))
     -- "K12: limit 2 again, 63 stack bytes, one frame, 28."
-    ∷ agreed section_s (askTrace (take 63 stack_window) (loaded mask) (crashed lr first) 2 (a ∷ b ∷ c ∷ d ∷ e ∷ f ∷ []))
-    (aTrace (traced_as (record { ending = ending.Refused 28; frames = 1 }) (0x7008 ∷ 0x401008 ∷ 0x7030 ∷ d ∷ e ∷ f ∷ [])))
+    ∷ agreed section_s (ask_trace (take 63 stack_window) (loaded mask) (crashed lr first) 2 (a ∷ b ∷ c ∷ d ∷ e ∷ f ∷ []))
+    (a_trace (traced_as (record { ending = ending.Refused 28; frames = 1 }) (0x7008 ∷ 0x401008 ∷ 0x7030 ∷ d ∷ e ∷ f ∷ [])))
     ∷ []
 
 -- ---- "AArch64, first frame, SP base, offset 0: CFA = SP, RA = LR. The same row later: 26. With offset 16 later: 27."
@@ -127,17 +127,17 @@ unfoldable pub in_leaf : ℕ → Registers
 in_leaf first = record { pc = 0x401010; sp = 0x7000; fp = 0x7030; lr = 0x401008; first = first }
 
 unfoldable pub of_leaf : ℕ → ℕ → Question
-of_leaf mask first = askCaller stack_window (loaded mask) (in_leaf first)
+of_leaf mask first = ask_caller stack_window (loaded mask) (in_leaf first)
 
 -- for any mask, since the row is not signed
 unfoldable pub aarch64_table : ℕ → List Agreed
 aarch64_table mask =
-    agreed (little_leaf 0) (of_leaf mask 1) (aStep (step.Caller (record { pc = 0x401008; sp = 0x7000; fp = 0x7030; lr = 0x401008; first = 0 })))
-    ∷ agreed (little_leaf 0) (of_leaf mask 0) (aStep (step.Refused (in_leaf 0) 26))
-    ∷ agreed (little_leaf 16) (of_leaf mask 0) (aStep (step.Refused (in_leaf 0) 27))
-    ∷ agreed (big_leaf 0) (of_leaf mask 1) (aStep (step.Caller (record { pc = 0x401008; sp = 0x7000; fp = 0x7030; lr = 0x401008; first = 0 })))
-    ∷ agreed (big_leaf 0) (of_leaf mask 0) (aStep (step.Refused (in_leaf 0) 26))
-    ∷ agreed (big_leaf 16) (of_leaf mask 0) (aStep (step.Refused (in_leaf 0) 27))
+    agreed (little_leaf 0) (of_leaf mask 1) (a_step (step.Caller (record { pc = 0x401008; sp = 0x7000; fp = 0x7030; lr = 0x401008; first = 0 })))
+    ∷ agreed (little_leaf 0) (of_leaf mask 0) (a_step (step.Refused (in_leaf 0) 26))
+    ∷ agreed (little_leaf 16) (of_leaf mask 0) (a_step (step.Refused (in_leaf 0) 27))
+    ∷ agreed (big_leaf 0) (of_leaf mask 1) (a_step (step.Caller (record { pc = 0x401008; sp = 0x7000; fp = 0x7030; lr = 0x401008; first = 0 })))
+    ∷ agreed (big_leaf 0) (of_leaf mask 0) (a_step (step.Refused (in_leaf 0) 26))
+    ∷ agreed (big_leaf 16) (of_leaf mask 0) (a_step (step.Refused (in_leaf 0) 27))
     ∷ []
 
 -- ---- request 03: "A function that ends in a call which never returns leaves a return address just past its own end"
@@ -167,17 +167,17 @@ called pc first = record { pc = pc; sp = 0x7000; fp = 0x7000; lr = 0; first = fi
 
 -- a step with the mark or without, and one with the section at another address
 unfoldable pub of_call : ℕ → ℕ → Question
-of_call pc first = askCaller call_window (loaded 0) (called pc first)
+of_call pc first = ask_caller call_window (loaded 0) (called pc first)
 
 unfoldable pub lying_at : ℕ → ℕ → ℕ → Question
-lying_at section pc first = askCaller call_window (record { section = section; stack = 0x7000; mask = 0 }) (called pc first)
+lying_at section pc first = ask_caller call_window (record { section = section; stack = 0x7000; mask = 0 }) (called pc first)
 
 -- the callers by the two rows of S: RA is the word at CFA - 8 in both, as read
 unfoldable pub by_entry : Reply
-by_entry = aStep (step.Caller (record { pc = 0x7038; sp = 0x7008; fp = 0x7000; lr = 0; first = 0 }))
+by_entry = a_step (step.Caller (record { pc = 0x7038; sp = 0x7008; fp = 0x7000; lr = 0; first = 0 }))
 
 unfoldable pub by_frame : Reply
-by_frame = aStep (step.Caller (record { pc = 0x401044; sp = 0x7010; fp = 0x7038; lr = 0; first = 0 }))
+by_frame = a_step (step.Caller (record { pc = 0x401044; sp = 0x7010; fp = 0x7038; lr = 0; first = 0 }))
 
 unfoldable pub last_call_table : List Agreed
 last_call_table =
@@ -185,15 +185,15 @@ last_call_table =
     -- neighbour's
     agreed adjacent_s (of_call 0x401020 0) by_frame
     ∷ agreed adjacent_s (of_call 0x401020 1) by_entry
-    ∷ agreed adjacent_s (at 0x401020) (anAnswer (record { outcome = Found at_entry 1 0; compared = 1 }))
+    ∷ agreed adjacent_s (at 0x401020) (an_answer (record { outcome = Found at_entry 1 0; compared = 1 }))
     -- the same with no neighbour
     ∷ agreed section_s (of_call 0x401020 0) by_frame
-    ∷ agreed section_s (of_call 0x401020 1) (aStep (step.Refused (called 0x401020 1) 21))
+    ∷ agreed section_s (of_call 0x401020 1) (a_step (step.Refused (called 0x401020 1) 21))
     -- at a function's first byte, with nobody before it
-    ∷ agreed section_s (of_call 0x401040 0) (aStep (step.Refused (called 0x401040 0) 21))
+    ∷ agreed section_s (of_call 0x401040 0) (a_step (step.Refused (called 0x401040 0) 21))
     ∷ agreed section_s (of_call 0x401040 1) by_entry
     -- at its first row's start, which is above 0
-    ∷ agreed late_s (of_call 0x401004 0) (aStep (step.Refused (called 0x401004 0) 23))
+    ∷ agreed late_s (of_call 0x401004 0) (a_step (step.Refused (called 0x401004 0) 23))
     ∷ agreed late_s (of_call 0x401004 1) by_frame
     -- at the first byte of a repeated block: o is the last of the block before, 15
     ∷ agreed repeated_s (of_call 0x401010 0) by_frame
@@ -201,12 +201,12 @@ last_call_table =
     -- "PC 0 without the mark": though a function covers PC 0, or 2^64 - 1; "after the section checks", and those after 41, here of a
     -- window of 64 bytes that ends at 2^64 + 1
     ∷ agreed below_s (lying_at 0x1000 0 1) by_entry
-    ∷ agreed below_s (lying_at 0x1000 0 0) (aStep (step.Refused (called 0 0) 21))
+    ∷ agreed below_s (lying_at 0x1000 0 0) (a_step (step.Refused (called 0 0) 21))
     ∷ agreed section_s (lying_at (2 ^ 64 - 0x1020) (2 ^ 64 - 1) 1) by_frame
-    ∷ agreed section_s (lying_at (2 ^ 64 - 0x1020) 0 0) (aStep (step.Refused (called 0 0) 21))
-    ∷ agreed (take 77 section_s) (of_call 0 0) (aStep (step.Unsound (called 0 0) 8 0))
-    ∷ agreed (take 77 section_s) (askCaller call_window (record { section = 0x400000; stack = 2 ^ 64 - 63; mask = 0 }) (called 0 0))
-    (aStep (step.Refused (called 0 0) 41))
+    ∷ agreed section_s (lying_at (2 ^ 64 - 0x1020) 0 0) (a_step (step.Refused (called 0 0) 21))
+    ∷ agreed (take 77 section_s) (of_call 0 0) (a_step (step.Unsound (called 0 0) 8 0))
+    ∷ agreed (take 77 section_s) (ask_caller call_window (record { section = 0x400000; stack = 2 ^ 64 - 63; mask = 0 }) (called 0 0))
+    (a_step (step.Refused (called 0 0) 41))
     ∷ []
 
 -- ---- request 04: "On AArch64, a row with the signed bit has the mask's bits cleared from RA, wherever RA came from"
@@ -245,10 +245,10 @@ unfoldable pub sealed : ℕ → ℕ → ℕ → Registers
 sealed pc sp first = record { pc = pc; sp = sp; fp = 0x7030; lr = 0x0035000000401009; first = first }
 
 unfoldable pub of_sealed : ℕ → ℕ → ℕ → ℕ → Question
-of_sealed mask pc sp first = askCaller sealed_window (loaded mask) (sealed pc sp first)
+of_sealed mask pc sp first = ask_caller sealed_window (loaded mask) (sealed pc sp first)
 
 unfoldable pub from_sealed : ℕ → ℕ → ℕ → ℕ → Reply
-from_sealed pc sp fp lr = aStep (step.Caller (record { pc = pc; sp = sp; fp = fp; lr = lr; first = 0 }))
+from_sealed pc sp fp lr = a_step (step.Caller (record { pc = pc; sp = sp; fp = fp; lr = lr; first = 0 }))
 
 -- the bits above those of a user's address, where these are 48, but for bit 55
 unfoldable pub usual_mask : ℕ
@@ -268,14 +268,14 @@ signed_table a b c d e f =
     -- "rows without it leave RA as read"
     ∷ agreed little_sealed (of_sealed usual_mask 0x401011 0x7000 0) (from_sealed 0x0022000000000000 0x7010 0x0011000000007030 0x0035000000401009)
     -- "Refusal 24 now comes only when the mask is 0, in its old place": before 26, here of the first row without the mark
-    ∷ agreed little_sealed (of_sealed 0 0x401000 0x7000 1) (aStep (step.Refused (sealed 0x401000 0x7000 1) 24))
-    ∷ agreed little_sealed (of_sealed 0 0x401001 0x7000 0) (aStep (step.Refused (sealed 0x401001 0x7000 0) 24))
-    ∷ agreed little_sealed (of_sealed usual_mask 0x401001 0x7000 0) (aStep (step.Refused (sealed 0x401001 0x7000 0) 26))
+    ∷ agreed little_sealed (of_sealed 0 0x401000 0x7000 1) (a_step (step.Refused (sealed 0x401000 0x7000 1) 24))
+    ∷ agreed little_sealed (of_sealed 0 0x401001 0x7000 0) (a_step (step.Refused (sealed 0x401001 0x7000 0) 24))
+    ∷ agreed little_sealed (of_sealed usual_mask 0x401001 0x7000 0) (a_step (step.Refused (sealed 0x401001 0x7000 0) 26))
     -- "The test for ending 30 uses the cleared RA.", and the PC asked in the second frame is one below the first one's
-    ∷ agreed little_sealed (askTrace sealed_window (loaded usual_mask) (sealed 0x401000 0x7000 0) 2 (a ∷ b ∷ c ∷ d ∷ e ∷ f ∷ []))
-    (aTrace (traced_as (record { ending = ending.Outermost; frames = 2 }) (0x7000 ∷ 0x401009 ∷ 0x7030 ∷ 0x7010 ∷ 0 ∷ 0x0011000000007030 ∷ [])))
-    ∷ agreed little_sealed (askTrace sealed_window (loaded 0) (sealed 0x401000 0x7000 0) 2 (a ∷ b ∷ c ∷ d ∷ e ∷ f ∷ []))
-    (aTrace (traced_as (record { ending = ending.Refused 24; frames = 0 }) (a ∷ b ∷ c ∷ d ∷ e ∷ f ∷ [])))
+    ∷ agreed little_sealed (ask_trace sealed_window (loaded usual_mask) (sealed 0x401000 0x7000 0) 2 (a ∷ b ∷ c ∷ d ∷ e ∷ f ∷ []))
+    (a_trace (traced_as (record { ending = ending.Outermost; frames = 2 }) (0x7000 ∷ 0x401009 ∷ 0x7030 ∷ 0x7010 ∷ 0 ∷ 0x0011000000007030 ∷ [])))
+    ∷ agreed little_sealed (ask_trace sealed_window (loaded 0) (sealed 0x401000 0x7000 0) 2 (a ∷ b ∷ c ∷ d ∷ e ∷ f ∷ []))
+    (a_trace (traced_as (record { ending = ending.Refused 24; frames = 0 }) (a ∷ b ∷ c ∷ d ∷ e ∷ f ∷ [])))
     -- AMD64: the bit is ignored, and nothing is cleared
     ∷ agreed signed_s (of_sealed (2 ^ 64 - 1) 0x401003 0x7000 1) (from_sealed 0x0011000000007030 0x7008 0x7030 0x0035000000401009)
     ∷ []
@@ -294,13 +294,13 @@ deep_words cfa (suc frames) = cfa ∷ 0x401044 ∷ 0x7030 ∷ deep_words (cfa + 
 
 -- a trace with this limit, of so many calls, into so many words
 unfoldable pub of_deep : ℕ → ℕ → ℕ → Question
-of_deep limit calls words = askTrace (deep_window calls) (loaded 0) (crashed 0 1) limit (replicate words 7)
+of_deep limit calls words = ask_trace (deep_window calls) (loaded 0) (crashed 0 1) limit (replicate words 7)
 
 unfoldable pub full_at : ℕ → List ℕ → Reply
-full_at frames behind = aTrace (traced_as (record { ending = ending.Full; frames = frames }) (deep_words 0x7008 frames ++ behind))
+full_at frames behind = a_trace (traced_as (record { ending = ending.Full; frames = frames }) (deep_words 0x7008 frames ++ behind))
 
 unfoldable pub shut_with : ℕ → ℕ → Reply
-shut_with number words = aTrace (traced_as (record { ending = ending.Shut number; frames = 0 }) (replicate words 7))
+shut_with number words = a_trace (traced_as (record { ending = ending.Shut number; frames = 0 }) (replicate words 7))
 
 unfoldable pub limit_table : List Agreed
 limit_table =

@@ -118,34 +118,34 @@ row_from_lem area shape code at some = simp (ra_in_lem, place-in, offsets-at)
 -- ---- what a row tells of its offsets: 0 is CFA's, 1 is RA's unless RA is fixed, and one is FP's
 
 data Told (shape : Shape) : ℕ → Type 0 where
-  of-cfa : Told shape 0
-  of-ra : shape.usesfixed ≡ false → Told shape 1
-  of-fp : Told shape shape.fpindex
+  of_cfa : Told shape 0
+  of_ra : shape.usesfixed ≡ false → Told shape 1
+  of_fp : Told shape shape.fpindex
 
 told : {shape : Shape} {k : ℕ} → Told shape k → Row → Place
-told of-cfa row = AtOffset row.cfa
-told (of-ra e) row = row.ra
-told of-fp row = row.fp
+told of_cfa row = AtOffset row.cfa
+told (of_ra e) row = row.ra
+told of_fp row = row.fp
 
 told_is : {shape : Shape} {k : ℕ} (which : Told shape k) (start : ℕ) (base : Base) (offsets : List Offset) (signed : Bool) → 1 ≤ length offsets
     → told which (row_from shape start base offsets signed) ≡ place_of offsets k
 unfolding told row_from ra_from
-told_is of-cfa start base offsets signed some = sym (place_inside offsets 0 _ some)
-told_is (of-ra e) start base offsets signed some = rw (e, ra_from)
-told_is of-fp start base offsets signed some = refl
+told_is of_cfa start base offsets signed some = sym (place_inside offsets 0 _ some)
+told_is (of_ra e) start base offsets signed some = rw (e, ra_from)
+told_is of_fp start base offsets signed some = refl
 
 -- no ABI allows one that is not told
 aarch64_told : (order : Order) (k : ℕ) → k < (aarch64_shape order).most → Told (aarch64_shape order) k
 unfolding aarch64_shape
-aarch64_told order zero lt = of-cfa
-aarch64_told order (suc zero) lt = of-ra refl
-aarch64_told order (suc (suc zero)) lt = of-fp
+aarch64_told order zero lt = of_cfa
+aarch64_told order (suc zero) lt = of_ra refl
+aarch64_told order (suc (suc zero)) lt = of_fp
 aarch64_told order (suc (suc (suc k))) lt = absurd (omega arith)
 
 amd64_told : (k : ℕ) → k < amd64_shape.most → Told amd64_shape k
 unfolding amd64_shape
-amd64_told zero lt = of-cfa
-amd64_told (suc zero) lt = of-fp
+amd64_told zero lt = of_cfa
+amd64_told (suc zero) lt = of_fp
 amd64_told (suc (suc k)) lt = absurd (omega arith)
 
 all_told : (abi : Abi) (k : ℕ) → k < (shape abi).most → Told (shape abi) k

@@ -137,12 +137,12 @@ module _ (stack : List ℕ) (process : Process) (limit : ℕ) (buffer : List ℕ
   -- the three ways
   pub data Way (s : List ℕ) : Type 0 where
     shut : (number : ℕ) → AtDoor stack process limit buffer number → Way s
-    unsound-way : DoorOpen stack process limit buffer → (number index : ℕ) → verdict s ≡ verdict.Refused number index → Way s
+    unsound_way : DoorOpen stack process limit buffer → (number index : ℕ) → verdict s ≡ verdict.Refused number index → Way s
     sound : DoorOpen stack process limit buffer → verdict s ≡ verdict.Accepted → Way s
 
   way_in : (s : List ℕ) → DoorOpen stack process limit buffer → (v : Verdict) → verdict s ≡ v → Way s
   way_in s opened verdict.Accepted e = sound opened e
-  way_in s opened (verdict.Refused number index) e = unsound-way opened number index e
+  way_in s opened (verdict.Refused number index) e = unsound_way opened number index e
 
   way_by : (s : List ℕ) (fault : Fault) → door_fault stack process limit (length buffer) ≡ fault → Way s
   way_by s Sound e = way_in s (door-opens.0 e) (verdict s) refl

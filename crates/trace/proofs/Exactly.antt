@@ -27,7 +27,7 @@ use Rattle.caller.specs.declared.registers.Process.{Process}
 use Rattle.caller.proofs.Exactly.{cfa_of_caller}
 use Rattle.trace.specs.Cases.{LimitAbove, TooFewWords, AtDoor, DoorOpen, no_frame, Follows, EndsOutermost, EndsFull, EndsRefused, WalkMade, OnTrace, Case}
 use Rattle.trace.specs.Frames.{TraceReply, in_force, frame_of, with_mark, all_words, over, traced_as}
-use Rattle.trace.specs.Numbers.{TraceCause, window, limitAbove, tooFewWords, unsound, refused, outermost, full, number_of_trace_cause, ending_number, ending_indexes}
+use Rattle.trace.specs.Numbers.{TraceCause, window, limit_above, too_few_words, unsound, refused, outermost, full, number_of_trace_cause, ending_number, ending_indexes}
 use Rattle.trace.specs.Computed.Trace.{Walk, walk_of, checked_walk, door_tests, door_fault, walk_after, walk_in, traced, trace_of}
 use Rattle.trace.specs.declared.answer.Ending.{Ending}
 use Rattle.trace.specs.declared.answer.Ending.TheVariants.{Outermost, Full, Refused, Shut, Unsound}
@@ -117,13 +117,13 @@ module _ (s stack : List ℕ) (process : Process) (registers : Registers) (limit
   -- "42 limit above 256"
   pub number_42_exactly_when : (ending_number trace.answer.ending ≡ 42) ↔ ((¬ Rule41 stack process) × LimitAbove limit)
   unfolding number_of_trace_cause
-  number_42_exactly_when = number_exactly_when limitAbove
+  number_42_exactly_when = number_exactly_when limit_above
 
   -- "43 fewer than 3 words per limit frame"
   pub number_43_exactly_when : (ending_number trace.answer.ending ≡ 43)
       ↔ ((¬ Rule41 stack process) × (¬ LimitAbove limit) × TooFewWords limit old)
   unfolding number_of_trace_cause
-  number_43_exactly_when = number_exactly_when tooFewWords
+  number_43_exactly_when = number_exactly_when too_few_words
 
   -- the ending itself at the door, with each of the three
   pub door_exactly_when : (number : ℕ) → (trace.answer.ending ≡ Shut number) ↔ AtDoor stack process limit old number

@@ -93,13 +93,13 @@ unfolding trace_opened registers shut_with
 past_memory = refl
 
 -- a window may end where memory does
-limit_above : trace_of [] (0 ∷ 0 ∷ []) (record { section = 0; stack = 2 ^ 64 - 2; mask = 0 }) (registers 0 0) 257 [] ≡ shut_with 42 []
+limit_above_lem : trace_of [] (0 ∷ 0 ∷ []) (record { section = 0; stack = 2 ^ 64 - 2; mask = 0 }) (registers 0 0) 257 [] ≡ shut_with 42 []
 unfolding trace_opened registers shut_with
-limit_above = refl
+limit_above_lem = refl
 
-too_few_words : trace_of section_s stack (process 0) (registers 0 0) 2 (replicate 5 7) ≡ shut_with 43 (replicate 5 7)
+too_few_words_lem : trace_of section_s stack (process 0) (registers 0 0) 2 (replicate 5 7) ≡ shut_with 43 (replicate 5 7)
 unfolding trace_opened section_s stack process registers shut_with
-too_few_words = refl
+too_few_words_lem = refl
 
 most_words : trace_of [] stack (process 0) (registers 0 0) 256 (replicate 767 7) ≡ shut_with 43 (replicate 767 7)
 unfolding trace_opened stack process registers shut_with

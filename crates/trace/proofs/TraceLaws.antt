@@ -23,13 +23,13 @@ use Rattle.caller.specs.declared.registers.Process.{Process}
 use Rattle.caller.proofs.Exactly.{checked_caller, checked_refused, refused_checked}
 use Rattle.trace.specs.Cases.{AtDoor, DoorOpen, Follows, EndsRefused, Ends, WalkTo, StepRefuses, WalkMade, WalkEnded, OnTrace, Case}
 use Rattle.trace.specs.Frames.{in_force, with_mark}
-use Rattle.trace.specs.Numbers.{TraceCause, window, limitAbove, tooFewWords, unsound, refused, outermost, full, number_of_trace_cause, ending_number}
+use Rattle.trace.specs.Numbers.{TraceCause, window, limit_above, too_few_words, unsound, refused, outermost, full, number_of_trace_cause, ending_number}
 use Rattle.trace.specs.Computed.Trace.{Walk, ended, walk_of, checked_walk, walk_in}
 use Rattle.trace.specs.declared.answer.Ending.{Ending}
 use Rattle.trace.specs.declared.answer.Ending.TheVariants.{Outermost, Full, Refused, Shut, Unsound}
 use Rattle.trace.specs.declared.answer.Frame.{Frame}
 use Rattle.trace.proofs.CaseLaws.{Yielding, Refusing, none_follows, case_within, walk_case, case_walk, walk_through, ends_through}
-use Rattle.trace.proofs.DoorLaws.{shut_walk, unsound_walk, open_walk, Way, shut, unsound-way, sound, way}
+use Rattle.trace.proofs.DoorLaws.{shut_walk, unsound_walk, open_walk, Way, shut, unsound_way, sound, way}
 use Rattle.trace.proofs.NumberLaws.{trace_distinct}
 
 -- ---- one step in a section that obeys, as it is computed and by its cases
@@ -95,7 +95,7 @@ module _ (s stack : List ℕ) (process : Process) (registers : Registers) (limit
   case-by : Way stack process limit buffer s → Cased whole
   unfolding ended checked_walk
   case-by (shut number at) = subst Cased (sym (shut_walk s stack process registers limit buffer number at)) (refl, at)
-  case-by (unsound-way opened number index e) =
+  case-by (unsound_way opened number index e) =
       let broken = refused_by_a_rule s number index e in
       subst Cased (sym (unsound_walk s stack process registers limit buffer opened number index e)) (refl, opened, broken.0, broken.1, broken.2)
   case-by (sound opened e) =
@@ -180,8 +180,8 @@ module _ (s stack : List ℕ) (process : Process) (registers : Registers) (limit
   trace-makes : (cause : TraceCause) → OnTrace s stack process registers limit buffer cause → number ≡ number_of_trace_cause cause
   unfolding ending_number number_of_trace_cause number_of_step_cause
   trace-makes window on = number_of [] (Shut 41) (refl, inl (refl, on))
-  trace-makes limitAbove (fits, above) = number_of [] (Shut 42) (refl, inr (inl (refl, fits, above)))
-  trace-makes tooFewWords (fits, allowed, few) = number_of [] (Shut 43) (refl, inr (inr (refl, fits, allowed, few)))
+  trace-makes limit_above (fits, above) = number_of [] (Shut 42) (refl, inr (inl (refl, fits, above)))
+  trace-makes too_few_words (fits, allowed, few) = number_of [] (Shut 43) (refl, inr (inr (refl, fits, allowed, few)))
   trace-makes (unsound rule) (opened, (index, given)) = number_of [] (Unsound (number_of_rule rule) index) (refl, opened, rule, refl, given)
   trace-makes (refused refusal) (frames, w) = number_of frames (Refused (number_of_refusal refusal)) (refused-made frames refusal w)
   trace-makes outermost (frames, w) = number_of frames Outermost w
@@ -189,8 +189,8 @@ module _ (s stack : List ℕ) (process : Process) (registers : Registers) (limit
 
   door-cause : (n : ℕ) → AtDoor stack process limit buffer n → (cause : TraceCause) × OnTrace s stack process registers limit buffer cause
   door-cause n (inl (is, past)) = (window, past)
-  door-cause n (inr (inl (is, fits, above))) = (limitAbove, (fits, above))
-  door-cause n (inr (inr (is, fits, allowed, few))) = (tooFewWords, (fits, allowed, few))
+  door-cause n (inr (inl (is, fits, above))) = (limit_above, (fits, above))
+  door-cause n (inr (inr (is, fits, allowed, few))) = (too_few_words, (fits, allowed, few))
 
   case-cause : (frames : List Frame) (ending : Ending) → Case s stack process registers limit buffer frames ending
       → (cause : TraceCause) × OnTrace s stack process registers limit buffer cause

@@ -9,7 +9,7 @@ use Rattle.caller.specs.Numbers.{Refusal, number_of_refusal}
 use Rattle.caller.specs.declared.registers.Registers.{Registers}
 use Rattle.caller.specs.declared.registers.Process.{Process}
 use Rattle.trace.specs.Frames.{in_force, frame_of, with_mark}
-use Rattle.trace.specs.Numbers.{TraceCause, window, limitAbove, tooFewWords, unsound, refused, outermost, full, number_of_trace_cause}
+use Rattle.trace.specs.Numbers.{TraceCause, window, limit_above, too_few_words, unsound, refused, outermost, full, number_of_trace_cause}
 use Rattle.trace.specs.declared.answer.Ending.{Ending}
 use Rattle.trace.specs.declared.answer.Ending.TheVariants.{Outermost, Full, Refused, Shut, Unsound}
 use Rattle.trace.specs.declared.answer.Frame.{Frame}
@@ -30,8 +30,8 @@ TooFewWords limit buffer = length buffer < 3 * in_force limit
 abbrev pub AtDoor : List ℕ → Process → ℕ → List ℕ → ℕ → Type 0
 AtDoor stack process limit buffer number =
     ((number ≡ number_of_trace_cause window) × Rule41 stack process)
-    ⊎ (((number ≡ number_of_trace_cause limitAbove) × (¬ Rule41 stack process) × LimitAbove limit)
-    ⊎ ((number ≡ number_of_trace_cause tooFewWords) × (¬ Rule41 stack process) × (¬ LimitAbove limit) × TooFewWords limit buffer))
+    ⊎ (((number ≡ number_of_trace_cause limit_above) × (¬ Rule41 stack process) × LimitAbove limit)
+    ⊎ ((number ≡ number_of_trace_cause too_few_words) × (¬ Rule41 stack process) × (¬ LimitAbove limit) × TooFewWords limit buffer))
 
 -- none of the three
 pub record DoorOpen (stack : List ℕ) (process : Process) (limit : ℕ) (buffer : List ℕ) : Type 0 where
@@ -106,8 +106,8 @@ module _ (s stack : List ℕ) (process : Process) (registers : Registers) (limit
   abbrev pub OnTrace : TraceCause → Type 0
   -- "41 stack address plus length above 2^64; 42 limit above 256; 43 fewer than 3 words per limit frame"
   OnTrace window = Rule41 stack process
-  OnTrace limitAbove = (¬ Rule41 stack process) × LimitAbove limit
-  OnTrace tooFewWords = (¬ Rule41 stack process) × (¬ LimitAbove limit) × TooFewWords limit buffer
+  OnTrace limit_above = (¬ Rule41 stack process) × LimitAbove limit
+  OnTrace too_few_words = (¬ Rule41 stack process) × (¬ LimitAbove limit) × TooFewWords limit buffer
   -- "then 1 to 15"
   OnTrace (unsound rule) = DoorOpen stack process limit buffer × BrokenFirst s rule
   -- "A refused step ends it with its own number, 21 to 28."

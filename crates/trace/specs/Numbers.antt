@@ -12,8 +12,8 @@ use Rattle.trace.specs.declared.answer.Ending.TheVariants.{Outermost, Full, Refu
 -- "Before anything else, in order: 41 ..; 42 ..; 43 ..; then 1 to 15."; the step's own, 21 to 28; 30 and 31
 pub data TraceCause : Type 0 where
   window : TraceCause
-  limitAbove : TraceCause
-  tooFewWords : TraceCause
+  limit_above : TraceCause
+  too_few_words : TraceCause
   unsound : Rule → TraceCause
   refused : Refusal → TraceCause
   outermost : TraceCause
@@ -22,8 +22,8 @@ pub data TraceCause : Type 0 where
 -- 41 is one caller's
 unfoldable pub number_of_trace_cause : TraceCause → ℕ
 number_of_trace_cause window = number_of_step_cause step.window
-number_of_trace_cause limitAbove = 42
-number_of_trace_cause tooFewWords = 43
+number_of_trace_cause limit_above = 42
+number_of_trace_cause too_few_words = 43
 number_of_trace_cause (unsound rule) = number_of_rule rule
 number_of_trace_cause (refused refusal) = number_of_refusal refusal
 number_of_trace_cause outermost = 30

@@ -53,18 +53,18 @@ pub entry_at-entry-requires : goal.entry_at-entry-requires
 entry_at-entry-requires c = room (goal.at.entry_at-entry-requires c).In-loop-i
 
 -- what was read is entry i
-entry-is : (c : After-entry_at-entry)
+entry_is : (c : After-entry_at-entry)
     → c.entry_at-entry.result
     ≡ entry_in c.args.section.now c.loop-i.i
 unfolding entry_in
-entry-is c =
+entry_is c =
     rw (c.requires.order_is, c.requires.layout_is) at c.entry_at-entry.ensures
 
-entry-is_at_after_start_of_start : (c : After-start_of-start)
+entry_is_at_after_start_of_start : (c : After-start_of-start)
     → c.entry_at-entry.result
     ≡ entry_in c.args.section.now c.loop-i.i
 unfolding entry_in
-entry-is_at_after_start_of_start c =
+entry_is_at_after_start_of_start c =
     rw (c.requires.order_is, c.requires.layout_is) at c.entry_at-entry.ensures
 
 held : (c : After-start_of-start)
@@ -73,13 +73,13 @@ held : (c : After-start_of-start)
     c.loop-i.i)
     c.start_of-start.result
 held c =
-    rw (entry-is_at_after_start_of_start c, c.requires.layout_is) at c.start_of-start.ensures.range
+    rw (entry_is_at_after_start_of_start c, c.requires.layout_is) at c.start_of-start.ensures.range
 
-entry-is_at_after_check_turn : (c : After-check_turn)
+entry_is_at_after_check_turn : (c : After-check_turn)
     → c.entry_at-entry.result
     ≡ entry_in c.args.section.now c.loop-i.i
 unfolding entry_in
-entry-is_at_after_check_turn c =
+entry_is_at_after_check_turn c =
     rw (c.requires.order_is, c.requires.layout_is) at c.entry_at-entry.ensures
 
 held_at_after_check_turn : (c : After-check_turn)
@@ -88,14 +88,14 @@ held_at_after_check_turn : (c : After-check_turn)
     c.loop-i.i)
     c.start_of-start.result
 held_at_after_check_turn c =
-    rw (entry-is_at_after_check_turn c, c.requires.layout_is) at c.start_of-start.ensures.range
+    rw (entry_is_at_after_check_turn c, c.requires.layout_is) at c.start_of-start.ensures.range
 
 turn : (c : After-check_turn)
     → c.check_turn.result
     ≡ turn_fault c.args.section.now
     c.loop-i.i
 turn c =
-    (rw (c.requires.area_is, c.requires.shape_is, entry-is_at_after_check_turn c, c.requires.layout_is) at c.check_turn.ensures)
+    (rw (c.requires.area_is, c.requires.shape_is, entry_is_at_after_check_turn c, c.requires.layout_is) at c.check_turn.ensures)
     ∙ turn_is _ _ _ _ (held_at_after_check_turn c) c.loop-i.invariant.end
 
 pub returns-in-Breaks : goal.returns-in-Breaks
@@ -110,8 +110,8 @@ overflow_add-rows c =
 pub loop-i-preserved : goal.loop-i-preserved
 loop-i-preserved c =
     let few : c.entry_at-entry.result.rows < 0x1_0000_0000 = omega (arith, c.struct_known-in-loop-i-3-1.given) in
-    rw (entry-is (goal.at.loop-i-preserved c).After-entry_at-entry)
-    (turns_go_on c.loop-i.invariant (inside (goal.at.loop-i-preserved c).In-loop-i) (held (goal.at.loop-i-preserved c).After-start_of-start) (rw (entry-is (goal.at.loop-i-preserved c).After-entry_at-entry) at few)
+    rw (entry_is (goal.at.loop-i-preserved c).After-entry_at-entry)
+    (turns_go_on c.loop-i.invariant (inside (goal.at.loop-i-preserved c).In-loop-i) (held (goal.at.loop-i-preserved c).After-start_of-start) (rw (entry_is (goal.at.loop-i-preserved c).After-entry_at-entry) at few)
     (sym (turn (goal.at.loop-i-preserved c).After-check_turn) ∙ c.in-Sound.is))
 
 pub returns : goal.returns

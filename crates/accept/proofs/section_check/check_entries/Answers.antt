@@ -19,17 +19,17 @@ header c = (header_exactly_when _).0 c.requires
 header_at_after_layout_at_layout : (c : After-layout_at-layout) → HeaderObeys c.args.section.now
 header_at_after_layout_at_layout c = (header_exactly_when _).0 c.requires
 
-area-within : (c : After-layout_at-layout) → c.layout_at-layout.result.area ≤ length c.args.section.now
-area-within c = rw c.layout_at-layout.ensures (area_inside (header_at_after_layout_at_layout c))
+area_within : (c : After-layout_at-layout) → c.layout_at-layout.result.area ≤ length c.args.section.now
+area_within c = rw c.layout_at-layout.ensures (area_inside (header_at_after_layout_at_layout c))
 
 pub layout_at-layout-requires : goal.layout_at-layout-requires
 layout_at-layout-requires c = (header (goal.at.layout_at-layout-requires c).Start).rule1
 
 pub slice_bounds-check_each-count : goal.slice_bounds-check_each-count
-slice_bounds-check_each-count c = area-within c
+slice_bounds-check_each-count c = area_within c
 
 pub slice_bounds-check_each-start : goal.slice_bounds-check_each-start
-slice_bounds-check_each-start c = let within = area-within c in search rules
+slice_bounds-check_each-start c = let within = area_within c in search rules
 
 pub order_at-requires : goal.order_at-requires
 order_at-requires c = (header (goal.at.order_at-requires c).Start).rule1

@@ -21,14 +21,14 @@ entry_in-entry-requires c =
     (record { header = pre.0; order_is = c.order_at.ensures }, pre.1)
 
 -- ---- the row area
-area-within : (c : Start) → c.args.layout.area ≤ length c.args.section.now
-area-within c = rw c.requires.0.layout_is (area_inside (header_obeys c.requires.0))
+area_within : (c : Start) → c.args.layout.area ≤ length c.args.section.now
+area_within c = rw c.requires.0.layout_is (area_inside (header_obeys c.requires.0))
 
 pub slice_bounds-seek_row-count : goal.slice_bounds-seek_row-count
-slice_bounds-seek_row-count c = area-within (goal.at.slice_bounds-seek_row-count c).Start
+slice_bounds-seek_row-count c = area_within (goal.at.slice_bounds-seek_row-count c).Start
 
 pub slice_bounds-seek_row-start : goal.slice_bounds-seek_row-start
-slice_bounds-seek_row-start c = let within = area-within (goal.at.slice_bounds-seek_row-start c).Start in search rules
+slice_bounds-seek_row-start c = let within = area_within (goal.at.slice_bounds-seek_row-start c).Start in search rules
 
 area_is : (c : Start)
     → take (length c.args.section.now - c.args.layout.area) (drop c.args.layout.area c.args.section.now)

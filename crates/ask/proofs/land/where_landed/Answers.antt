@@ -18,8 +18,8 @@ use Rattle.ask.proofs.SoughtLaws.{past_answer}
 use Rattle.ask.proofs.land.where_landed.Goals as goal
 
 module _ (s : List ℕ) (d : ℤ) (compared low : ℕ) (some : 0 < low) where
-  before-low : where_landed s d compared low ≡ where_landed s d compared (suc (low - 1))
-  before-low = ap (where_landed s d compared) (omega arith)
+  before_low : where_landed s d compared low ≡ where_landed s d compared (suc (low - 1))
+  before_low = ap (where_landed s d compared) (omega arith)
 
   inside : (past : ℕ) → past_in d (function_in s (low - 1)) ≡ By past → past_function s (low - 1) past compared ≡ where_landed s d compared low
   unfolding where_landed past_in function_in
@@ -28,7 +28,7 @@ module _ (s : List ℕ) (d : ℤ) (compared low : ℕ) (some : 0 < low) where
       (λ set.
       let by : By (natural (d -ℤ function_start s (low - 1))) ≡ By past = rw (set, past_in) at is in
       let same : natural (d -ℤ function_start s (low - 1)) ≡ past = cc in
-      rw (← same) (past_answer s d (low - 1) compared ∙ sym (before-low ∙ (rw (set, where_landed)))))
+      rw (← same) (past_answer s d (low - 1) compared ∙ sym (before_low ∙ (rw (set, where_landed)))))
       (λ unset. absurd (let other : Outside ≡ By past = rw (unset, past_in) at is in let z : ◌≡◌ {A = ℕ} 0 1 = cc in omega arith))
 
   beside : past_in d (function_in s (low - 1)) ≡ Outside → NoFunction compared ≡ where_landed s d compared low
@@ -36,7 +36,7 @@ module _ (s : List ℕ) (d : ℤ) (compared low : ℕ) (some : 0 < low) where
   beside is =
       by_value (covers d (function_in s (low - 1)))
       (λ set. absurd (let other : By _ ≡ Outside = rw (set, past_in) at is in let z : ◌≡◌ {A = ℕ} 0 1 = cc in omega arith))
-      (λ unset. sym (before-low ∙ (rw (unset, where_landed))))
+      (λ unset. sym (before_low ∙ (rw (unset, where_landed))))
 
 pub returns-then-low-eq0 : goal.returns-then-low-eq0
 unfolding where_landed

@@ -50,14 +50,14 @@ block_offset-o-requires c =
     rw c.entry_in-entry.ensures ((entry_sound _ _ _).0 (fault_free c.requires)).repeat
 
 -- ---- the entry and its rows
-area-within : (c : Start) → c.args.layout.area ≤ length c.args.section.now
-area-within c = rw c.requires.section.layout_is (area_inside (header_obeys (accepted_header c.requires.section)))
+area_within : (c : Start) → c.args.layout.area ≤ length c.args.section.now
+area_within c = rw c.requires.section.layout_is (area_inside (header_obeys (accepted_header c.requires.section)))
 
 pub slice_bounds-area-count : goal.slice_bounds-area-count
-slice_bounds-area-count c = area-within (goal.at.slice_bounds-area-count c).Start
+slice_bounds-area-count c = area_within (goal.at.slice_bounds-area-count c).Start
 
 pub slice_bounds-area-start : goal.slice_bounds-area-start
-slice_bounds-area-start c = let within = area-within (goal.at.slice_bounds-area-start c).Start in search rules
+slice_bounds-area-start c = let within = area_within (goal.at.slice_bounds-area-start c).Start in search rules
 
 area_is : (c : Start)
     → take (length c.args.section.now - c.args.layout.area) (drop c.args.layout.area c.args.section.now)

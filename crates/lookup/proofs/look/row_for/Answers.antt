@@ -45,14 +45,14 @@ overflow_sub-past c =
     past_start_lem _ _ c.requires.within (held c) (near (goal.at.overflow_sub-past c).After-near_of) (small (goal.at.overflow_sub-past c).After-entry_in-entry)
 
 -- ---- the entry and its rows
-area-within : (c : Start) → c.args.layout.area ≤ length c.args.section.now
-area-within c = rw c.requires.section.layout_is (area_inside (header_obeys (accepted_header c.requires.section)))
+area_within : (c : Start) → c.args.layout.area ≤ length c.args.section.now
+area_within c = rw c.requires.section.layout_is (area_inside (header_obeys (accepted_header c.requires.section)))
 
 pub slice_bounds-scan_rows-count : goal.slice_bounds-scan_rows-count
-slice_bounds-scan_rows-count c = area-within (goal.at.slice_bounds-scan_rows-count c).Start
+slice_bounds-scan_rows-count c = area_within (goal.at.slice_bounds-scan_rows-count c).Start
 
 pub slice_bounds-scan_rows-start : goal.slice_bounds-scan_rows-start
-slice_bounds-scan_rows-start c = let within = area-within (goal.at.slice_bounds-scan_rows-start c).Start in search rules
+slice_bounds-scan_rows-start c = let within = area_within (goal.at.slice_bounds-scan_rows-start c).Start in search rules
 
 area_is : (c : Start)
     → take (length c.args.section.now - c.args.layout.area) (drop c.args.layout.area c.args.section.now)

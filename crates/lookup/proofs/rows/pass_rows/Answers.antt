@@ -33,19 +33,19 @@ told_at-told-requires c =
     ((readable (goal.at.told_at-told-requires c).In-loop-k).type, (readable (goal.at.told_at-told-requires c).In-loop-k).fixed, c.loop-k.invariant.1)
 
 -- what is told of the next row is its length
-length-is : (c : After-told_at-told)
+length_is : (c : After-told_at-told)
     → c.told_at-told.result.length ≡ row_length c.args.area.now c.args.code c.loop-k.at
 unfolding told_by row_length
-length-is c = ap (λ told. told.length) c.told_at-told.ensures
+length_is c = ap (λ told. told.length) c.told_at-told.ensures
 
 pub overflow_add-at : goal.overflow_add-at
-overflow_add-at c = rw (length-is (goal.at.overflow_add-at c).After-told_at-told) (omega (arith, (readable (goal.at.overflow_add-at c).In-loop-k).whole))
+overflow_add-at c = rw (length_is (goal.at.overflow_add-at c).After-told_at-told) (omega (arith, (readable (goal.at.overflow_add-at c).In-loop-k).whole))
 
 pub loop-k-preserved : goal.loop-k-preserved
 unfolding starts_by told_by
 loop-k-preserved c =
     let starts = leb-true _ _ (sym c.starts_by.ensures ∙ c.if-not-starts_by.false) in (
-      rw (length-is (goal.at.loop-k-preserved c).After-told_at-told, add-one c.loop-k.k) (passes_on c.loop-k.invariant.0 c.loop-k-test.true starts),
+      rw (length_is (goal.at.loop-k-preserved c).After-told_at-told, add-one c.loop-k.k) (passes_on c.loop-k.invariant.0 c.loop-k-test.true starts),
       rw c.told_at-told.ensures,
     )
 

@@ -19,9 +19,9 @@ pub loop-low-init : goal.loop-low-init
 loop-low-init c = halving_begins _ c.requires
 
 -- the bound of the distance
-bound-is : (c : After-bound_of-bound)
+bound_is : (c : After-bound_of-bound)
     → c.bound_of-bound.result ≡ near (distance c.args.address c.args.pc) + 1 - 2 ^ 31
-bound-is c = rw c.near_of.ensures at c.bound_of-bound.ensures
+bound_is c = rw c.near_of.ensures at c.bound_of-bound.ensures
 
 pub overflow_add-half : goal.overflow_add-half
 overflow_add-half c =
@@ -43,13 +43,13 @@ pub loop-low-preserved-then-rank_at-bound : goal.loop-low-preserved-then-rank_at
 loop-low-preserved-then-rank_at-bound c =
     rw (add-one ((c.loop-low.low + c.loop-low.high) / 2), add-one c.loop-low.compared)
     (goes_up c.loop-low.invariant c.loop-low-test.true λ z held.
-    from_start c.rank_at.ensures held (omega (arith, c.if-rank_at-bound.true, bound-is (goal.at.loop-low-preserved-then-rank_at-bound c).After-bound_of-bound)))
+    from_start c.rank_at.ensures held (omega (arith, c.if-rank_at-bound.true, bound_is (goal.at.loop-low-preserved-then-rank_at-bound c).After-bound_of-bound)))
 
 pub loop-low-preserved : goal.loop-low-preserved
 loop-low-preserved c =
     rw (add-one c.loop-low.compared)
     (goes_down c.loop-low.invariant c.loop-low-test.true λ z held.
-    before_start c.rank_at.ensures held (omega (arith, c.if-rank_at-bound.false, bound-is (goal.at.loop-low-preserved c).After-bound_of-bound)))
+    before_start c.rank_at.ensures held (omega (arith, c.if-rank_at-bound.false, bound_is (goal.at.loop-low-preserved c).After-bound_of-bound)))
 
 pub returns : goal.returns
 returns c =
