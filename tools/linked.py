@@ -122,17 +122,17 @@ def text_of(crate, of, below, all_of):
     return "\n".join(lines).rstrip("\n") + "\n"
 
 
-def text_of_all(crates, orders, all_of):
-    """One look-up that has them all, and the functions that crates/promises/proofs/Returned.antt speaks of, wired in its environment."""
+def text_of_all(crates, orders, all_of, source):
+    """One look-up that has them all, and the functions whose return `source` states, wired in its environment."""
     cited = []
-    returned = read("crates/promises/proofs/Returned.antt")
+    returned = read(source)
     named = {m[3] or m[2].split(".")[-1]: (m[1], m[2]) for m in re.finditer(r"(?m)^use Rattle\.(\w+)\.proofs\.(\S+?)(?: as (\S+))?$", returned)}
     for theorem, alias in re.findall(r"(?m)^pub (\w+)_returns : \(γ : Env\) → Wired γ (\S+)\.Symbol\.code", returned):
         cited.append((theorem, alias, *named[alias]))
     lines = [
         "-- There is an environment of the machine in which the name of each function means its code, with the code of all that it calls: that of",
-        "-- the look-up which lists them (`tie` of `prog.Linked`). So what `Returned` and `Ran` say of every environment that is wired for a",
-        "-- function's code is not said of nothing. Written by tools/linked.py.",
+        "-- the look-up which lists them (`tie` of `prog.Linked`). So what is said of every environment that is wired for a function's code is not",
+        "-- said of nothing. Written by tools/linked.py.",
         "-- Assumes nothing.",
         "use mathlib.Core.Path.{refl}",
         "use mathlib.Core.Bool.{false}",
@@ -184,8 +184,12 @@ def main(argv):
                 f.write("\n".join(names) + "\n")
         orders[crate] = ordered(of, crate)
         print(crate, len(of), all_of[crate]["needs"])
+    layers = [it for it in sorted(crates, key=below.index) if it != "suntimpani_c"]
     with open("crates/promises/proofs/Linked.antt", "w", encoding="utf-8") as f:
-        f.write(text_of_all(sorted(crates, key=below.index), orders, all_of))
+        f.write(text_of_all(layers, orders, all_of, "crates/promises/proofs/Returned.antt"))
+    if "suntimpani_c" in crates:
+        with open("crates/suntimpani_c/proofs/Environment.antt", "w", encoding="utf-8") as f:
+            f.write(text_of_all(layers + ["suntimpani_c"], orders, all_of, "crates/suntimpani_c/proofs/Exported.antt"))
 
 
 if __name__ == "__main__":

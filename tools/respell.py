@@ -19,6 +19,8 @@ MODULES = {"inner": "Inner", "computed": "Computed"}
 # Two files whose names would now be one with what Rattle makes.
 FILES = {"crates/promises/specs/Contracts.antt": "crates/promises/specs/StatedContracts.antt"}
 PATHS = [("Rattle.promises.specs.Contracts", "Rattle.promises.specs.StatedContracts")]
+# In these crates the word is a field or a module, and no lemma.
+OF_A_CRATE = {("promises", "no-function"): "no_function", ("trace", "in-memory"): "in_memory", ("promises", "line-reads"): "line-reads"}
 
 
 def snake(name):
@@ -68,7 +70,7 @@ def gather(root):
         for line in text.split("\n"):
             if line.startswith("use "):
                 m = re.match(r"use (\S+?)(?:\.\{(.*)\})?(?: as (\S+))?$", line)
-                if m and not re.match(r"Rattle\.(?!std\b)", m[1]):
+                if m and not is_proof(path) and not re.match(r"Rattle\.(?!std\b)", m[1]):
                     for it in (m[2] or "").split(","):
                         foreign.add(it.strip().split(" as ")[-1])
                         foreign.add(it.strip().split(" as ")[0])
@@ -206,7 +208,8 @@ def main(argv):
         return
     for path in list(files(root, ".antt")):
         text = read(path)
-        new = turn(turn_modules(text), wanted, fields)
+        crate = os.path.relpath(path, os.path.join(root, "crates")).split(os.sep)[0]
+        new = turn(turn_modules(text), wanted | {word: it for (c, word), it in OF_A_CRATE.items() if c == crate}, fields)
         if os.path.basename(path) == "Lib.antt":
             new = re.sub(r"(?m)^((?:pub )?mod )(inner|computed)$", lambda m: m[1] + MODULES[m[2]], new)
             new = re.sub(r"(?m)^((?:pub )?mod )Contracts$", r"\1StatedContracts", new)

@@ -23,7 +23,7 @@ use Rattle.accept.proofs.FaultLaws.{accepted_or_refused}
 use Rattle.lookup.specs.Cases.{NoneCovers, SomeTwoCover, FoundCase, NoRowCase, row_of_function}
 use Rattle.lookup.specs.Finding.{Finding}
 use Rattle.lookup.specs.Numbers.{no_function, dispute, no_row, number_of_unfound}
-use Rattle.lookup.specs.Computed.Answers.{lookup_of, look_in_lem}
+use Rattle.lookup.specs.Computed.Answers.{lookup_of, look_in}
 use Rattle.lookup.specs.declared.answer.Outcome.TheVariants.{Found}
 use Rattle.lookup.proofs.CoveringLaws.{is_true}
 use Rattle.lookup.proofs.Exactly as lookup
@@ -288,13 +288,13 @@ module _ (s stack : List ℕ) (process : Process) (registers : Registers) where
   -- ---- a section that was checked before, as in a trace
 
   pub step_of_checked : WindowFits stack process → Obeys s
-      → step_in s stack process registers ≡ step_of (shape_of s) (look_in_lem s process.section) stack process registers
+      → step_in s stack process registers ≡ step_of (shape_of s) (look_in s process.section) stack process registers
   unfolding step_in if_fits step_after
   step_of_checked fits obeys = rw (is_true (fits_shows stack process) fits, if_fits) (rw ((accepted_exactly_when s).1 obeys))
 
   module _ (fits : WindowFits stack process) (obeys : Obeys s) where
     abbrev checked : Step
-    checked = step_of (shape_of s) (look_in_lem s process.section) stack process registers
+    checked = step_of (shape_of s) (look_in s process.section) stack process registers
 
     pub checked_caller : (caller : Registers) → (checked ≡ Caller caller) ↔ CallerCase s stack process registers caller
     checked_caller caller = rw (step_of_checked fits obeys) at (caller_exactly_when caller)
@@ -331,8 +331,8 @@ through_finding here there look other stack process registers same found = rw (s
 
 -- so two sections in which every lookup finds the same have the same steps
 pub through_look : (s t : List ℕ) (address other : ℕ) → shape_of s ≡ shape_of t
-    → ((pc : ℕ) → look_in_lem s address pc ≡ look_in_lem t other pc)
-    → step_of (shape_of s) (look_in_lem s address) ≡ step_of (shape_of t) (look_in_lem t other)
+    → ((pc : ℕ) → look_in s address pc ≡ look_in t other pc)
+    → step_of (shape_of s) (look_in s address) ≡ step_of (shape_of t) (look_in t other)
 through_look s t address other same found = rw same (ap (step_of (shape_of t)) (fun_ext found))
 
 -- ---- "a needed word (RA first)": both words refuse with 28, so the order cannot be seen

@@ -26,7 +26,7 @@ use Rattle.section.specs.declared.row.Place.TheVariants.{Register, AtOffset}
 use Rattle.section.specs.declared.row.Row.{Row}
 use Rattle.section.specs.declared.shape.Shape.{Shape}
 use Rattle.lookup.specs.Finding.{Finding}
-use Rattle.lookup.specs.Computed.Answers.{look_in_lem}
+use Rattle.lookup.specs.Computed.Answers.{look_in}
 use Rattle.caller.specs.Frame.{just_before, asked_of, cfa_of, caller_sp}
 use Rattle.caller.specs.Numbers.{step_number, step_registers}
 use Rattle.caller.specs.Signature.{is_signed, mask_of, clear}
@@ -310,7 +310,7 @@ our_asked shape look stack process registers = refl
 
 -- by S loaded here
 number_by : (Registers → Asked) → Process → Registers → ℕ
-number_by asked process registers = step_number (step_by asked (shape_of section_s) (look_in_lem section_s process.section) stack process registers)
+number_by asked process registers = step_number (step_by asked (shape_of section_s) (look_in section_s process.section) stack process registers)
 
 -- document 01's: PC itself, with the mark and without. Just behind S's first function there is then none
 itself : Registers → Asked

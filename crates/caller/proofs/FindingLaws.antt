@@ -16,7 +16,7 @@ use Rattle.accept.proofs.Exactly.{accepted_exactly_when}
 use Rattle.lookup.specs.Cases.{FoundCase, UnfoundCase}
 use Rattle.lookup.specs.Finding.{finds, refuses, finding_of}
 use Rattle.lookup.specs.Numbers.{Unfound, number_of_unfound, outcome_number}
-use Rattle.lookup.specs.Computed.Answers.{answer_after, lookup_of, look_in_lem}
+use Rattle.lookup.specs.Computed.Answers.{answer_after, lookup_of, look_in}
 use Rattle.lookup.specs.declared.answer.Outcome.{Outcome}
 use Rattle.lookup.specs.declared.answer.Outcome.TheVariants.{Found, Unsound, NoFunction, Dispute, NoRow}
 use Rattle.lookup.proofs.Exactly.{found_exactly_when}
@@ -45,21 +45,21 @@ module _ (s : List ℕ) (obeys : Obeys s) (address pc : ℕ) where
   accepted : verdict s ≡ Accepted
   accepted = (accepted_exactly_when s).1 obeys
 
-  look_is : look_in_lem s address pc ≡ finding_of (lookup_of s address pc).outcome
-  unfolding look_in_lem lookup_of answer_after
+  look_is : look_in s address pc ≡ finding_of (lookup_of s address pc).outcome
+  unfolding look_in lookup_of answer_after
   look_is = rw accepted
 
-  pub answers_exactly_when : (row : Row) (k : ℕ) → (look_in_lem s address pc ≡ finds row k) ↔ ((i : ℕ) × ((lookup_of s address pc).outcome ≡ Found row i k))
+  pub answers_exactly_when : (row : Row) (k : ℕ) → (look_in s address pc ≡ finds row k) ↔ ((i : ℕ) × ((lookup_of s address pc).outcome ≡ Found row i k))
   answers_exactly_when row k = rw look_is (finds_row (lookup_of s address pc).outcome row k)
 
-  pub finds_exactly_when : (row : Row) (k : ℕ) → (look_in_lem s address pc ≡ finds row k) ↔ ((i : ℕ) × FoundCase s (distance address pc) row i k)
+  pub finds_exactly_when : (row : Row) (k : ℕ) → (look_in s address pc ≡ finds row k) ↔ ((i : ℕ) × FoundCase s (distance address pc) row i k)
   finds_exactly_when row k =
       Iff.trans (answers_exactly_when row k) (
         λ h. (h.0, (found_exactly_when s accepted address pc row h.0 k).0 h.1),
         λ h. (h.0, (found_exactly_when s accepted address pc row h.0 k).1 h.1),
       )
 
-  pub unfound_exactly_when : (why : Unfound) → (look_in_lem s address pc ≡ refuses (number_of_unfound why)) ↔ UnfoundCase s (distance address pc) why
+  pub unfound_exactly_when : (why : Unfound) → (look_in s address pc ≡ refuses (number_of_unfound why)) ↔ UnfoundCase s (distance address pc) why
   unfound_exactly_when why =
       Iff.trans
       (rw look_is (refuses_number (lookup_of s address pc).outcome (number_of_unfound why) (omega (arith, number_of_unfound_lem why))))

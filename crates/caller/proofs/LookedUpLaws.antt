@@ -9,7 +9,7 @@ use Rattle.section.specs.Shape.{shape}
 use Rattle.section.specs.declared.header.Layout.{Layout}
 use Rattle.section.specs.declared.shape.Shape.{Shape}
 use Rattle.lookup.specs.Finding.{Finding, finding_of}
-use Rattle.lookup.specs.Computed.Answers.{answer_of, look_in_lem}
+use Rattle.lookup.specs.Computed.Answers.{answer_of, look_in}
 use Rattle.lookup.specs.Inner.Requires.{AcceptedOf}
 use Rattle.lookup.specs.declared.answer.Answer.{Answer}
 use Rattle.caller.specs.Frame.{asked_of}
@@ -29,14 +29,14 @@ nowhere_refused registers nowhere shape look stack process = rw nowhere
 
 module _ (s stack : List ℕ) (process : Process) (registers : Registers) where
   pub nowhere_step : {asked : Asked} → asked ≡ asked_of registers → asked ≡ Nowhere
-      → Refused registers 21 ≡ step_of (shape_of s) (look_in_lem s process.section) stack process registers
+      → Refused registers 21 ≡ step_of (shape_of s) (look_in s process.section) stack process registers
   nowhere_step is nowhere = sym (nowhere_refused registers (sym is ∙ nowhere) _ _ stack process)
 
   pub looked_up_step : {layout : Layout} {asked : Asked} {pc : ℕ} {answer : Answer} {here : Shape} {step : Step}
       → AcceptedOf s layout → asked ≡ asked_of registers → asked ≡ At pc → answer ≡ answer_of s process.section pc → here ≡ shape layout.abi
       → step ≡ from_finding here stack process registers (finding_of answer.outcome)
-      → step ≡ step_of (shape_of s) (look_in_lem s process.section) stack process registers
-  unfolding look_at step_of look_in_lem shape_of
+      → step ≡ step_of (shape_of s) (look_in s process.section) stack process registers
+  unfolding look_at step_of look_in shape_of
   looked_up_step accepted is at looked shaped e =
       rw (sym is ∙ at)
       (rw (looked, shaped, accepted.layout_is) at e)

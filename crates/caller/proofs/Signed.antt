@@ -21,7 +21,7 @@ use Rattle.accept.specs.declared.verdict.Verdict.{Verdict}
 use Rattle.accept.specs.declared.verdict.Verdict.TheVariants as verdict
 use Rattle.accept.proofs.Exactly.{accepted_exactly_when}
 use Rattle.lookup.specs.Finding.{Finding, finds, refuses}
-use Rattle.lookup.specs.Computed.Answers.{look_in_lem}
+use Rattle.lookup.specs.Computed.Answers.{look_in}
 use Rattle.lookup.proofs.CoveringLaws.{is_false}
 use Rattle.caller.specs.Cases.{WindowFits, RowFound, CallerCase}
 use Rattle.caller.specs.Frame.{asked_of, cfa_of}
@@ -70,15 +70,15 @@ module _ (s stack : List ℕ) (process : Process) (registers : Registers) where
   -- what is looked up on an accepted section is not signed, or there is nothing to look up
   module _ (unsigned : (row : Row) → RowFound s stack process registers row → ¬ Signed (shape_of s) row) (mask : ℕ) where
     asked-unseen : WindowFits stack process → Obeys s → (asked : Asked) → asked_of registers ≡ asked
-        → from_finding (shape_of s) stack (with_mask process mask) registers (look_at (look_in_lem s process.section) asked)
-        ≡ from_finding (shape_of s) stack process registers (look_at (look_in_lem s process.section) asked)
+        → from_finding (shape_of s) stack (with_mask process mask) registers (look_at (look_in s process.section) asked)
+        ≡ from_finding (shape_of s) stack process registers (look_at (look_in s process.section) asked)
     unfolding look_at
     asked-unseen fits obeys Nowhere is = finding-unseen (shape_of s) stack process registers mask (refuses 21) (λ row k e. absurd (other e))
       where
         other : {row : Row} {k : ℕ} → ¬ (◌≡◌ {A = Finding} (refuses 21) (finds row k))
         other e = let z : ◌≡◌ {A = ℕ} 0 1 = cc in omega arith
     asked-unseen fits obeys (At pc) is =
-        finding-unseen (shape_of s) stack process registers mask (look_in_lem s process.section pc) λ row k e.
+        finding-unseen (shape_of s) stack process registers mask (look_in s process.section pc) λ row k e.
         let (i, found) = (finds_exactly_when s obeys process.section pc row k).0 e in
         unsigned row (record { fits = fits; obeys = obeys; pc = pc; asked = is; holds = (i, k, found) })
 
@@ -91,8 +91,8 @@ module _ (s stack : List ℕ) (process : Process) (registers : Registers) where
         (λ past. rw (is_false (fits_shows stack process) past, if_fits))
       where
         after : (found : Verdict) → verdict s ≡ found → WindowFits stack process
-            → step_after registers found (step_of (shape_of s) (look_in_lem s process.section) stack (with_mask process mask) registers)
-            ≡ step_after registers found (step_of (shape_of s) (look_in_lem s process.section) stack process registers)
+            → step_after registers found (step_of (shape_of s) (look_in s process.section) stack (with_mask process mask) registers)
+            ≡ step_after registers found (step_of (shape_of s) (look_in s process.section) stack process registers)
         after verdict.Accepted is fits = asked-unseen fits ((accepted_exactly_when s).0 is) (asked_of registers) refl
         after (verdict.Refused number index) is fits = refl
 

@@ -20,7 +20,7 @@ use Rattle.accept.proofs.Exactly.{accepted_exactly_when, given_exactly_when, obe
 use Rattle.lookup.specs.Cases.{UnfoundCase}
 use Rattle.lookup.specs.Finding.{Finding}
 use Rattle.lookup.specs.Numbers.{Unfound, no_function, dispute, no_row, number_of_unfound}
-use Rattle.lookup.specs.Computed.Answers.{look_in_lem}
+use Rattle.lookup.specs.Computed.Answers.{look_in}
 use Rattle.lookup.proofs.CoveringLaws.{by_value, is_true, is_false}
 use Rattle.caller.specs.Cases.{Rule24, Rule25, Rule26, Rule27, Rule41, WindowFits, Outside, LookedUp, NothingAsked, RowFound, CfaAt, WordsAt, OnRefusal, CallerCase, UnsoundCase, RefusedCase, Case}
 use Rattle.caller.specs.Frame.{asked_of, cfa_of, caller_sp}
@@ -59,7 +59,7 @@ module _ (s stack : List ℕ) (process : Process) (registers : Registers) where
 
   -- 41 is past
   fits-given : WindowFits stack process
-      → answer ≡ step_after registers (verdict s) (step_of (shape_of s) (look_in_lem s process.section) stack process registers)
+      → answer ≡ step_after registers (verdict s) (step_of (shape_of s) (look_in s process.section) stack process registers)
   unfolding step_in if_fits
   fits-given fits = rw (is_true (fits_shows stack process) fits, if_fits)
 
@@ -70,7 +70,7 @@ module _ (s stack : List ℕ) (process : Process) (registers : Registers) where
 
   -- 1 to 15 are past too, and this is what the lookup finds
   found-given : (obeys : Obeys s) → WindowFits stack process → {pc : ℕ} → asked_of registers ≡ At pc → {found : Finding}
-      → look_in_lem s process.section pc ≡ found
+      → look_in s process.section pc ≡ found
       → answer ≡ from_finding (shape_of s) stack process registers found
   unfolding step_after step_of look_at
   found-given obeys fits asked looks = fits-given fits ∙ rw ((accepted_exactly_when s).1 obeys) (rw asked (rw looks))

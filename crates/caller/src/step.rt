@@ -3,7 +3,7 @@
 ghost use Rattle.std.specs.Prelude.{◌≡◌};
 ghost use Rattle.section.specs.Meaning.{shape_of};
 ghost use Rattle.lookup.specs.Finding.{finding_of};
-ghost use Rattle.lookup.specs.Computed.Answers.{look_in_lem};
+ghost use Rattle.lookup.specs.Computed.Answers.{look_in};
 ghost use Rattle.lookup.specs.Inner.Requires.{AcceptedOf};
 ghost use Rattle.caller.specs.Computed.Caller.{with_values, from_spots, from_cfa, from_row, from_finding, step_of, step_in};
 
@@ -152,7 +152,7 @@ impl Registers {
         process: Process,
     ) -> Step
         requires { AcceptedOf section.now layout }
-        ensures { result ≡ step_of (shape_of section.now) (look_in_lem section.now process.section) stack.now process self }
+        ensures { result ≡ step_of (shape_of section.now) (look_in section.now process.section) stack.now process self }
     {
         let Asked::At(pc) = asked_of(self) else {
             return Step::Refused {

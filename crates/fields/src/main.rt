@@ -11,7 +11,7 @@ use numbers::field::{Number, Order, number_at, width_of};
 use numbers::offset::{Shift, offset_at, shift_of};
 use std::io::{BufWriter, Read, Write};
 use std::rt::Files;
-use std::{fs, io};
+use std::{fs, io, str};
 
 fn say(out: &mut impl Write, text: &[u8]) -> io::Result<()> {
     out.write_all(text)
@@ -117,6 +117,27 @@ fn read_full(input: &mut impl Read, buffer: &mut [u8]) -> io::Result<usize>
     Ok(done)
 }
 
+// The bytes that the system's message for an error has, at most.
+const MESSAGE: usize = 256;
+
+// Says of a file that cannot be opened what the system says of it, without the number that std puts behind it.
+fn note_unopened(rt: &impl Eprint, path: &str, error: io::Error) -> io::Result<()> {
+    let mut room = [0u8; MESSAGE];
+    let mut rest: &mut [u8] = &mut room;
+    let _ = write!(rest, "{error}");
+    let end = MESSAGE.saturating_sub(rest.len());
+    let Some(said) = room.get(..end) else {
+        return Ok(());
+    };
+    let Ok(said) = str::from_utf8(said) else {
+        return Ok(());
+    };
+    match said.split_once(" (os error ") {
+        Some((message, _)) => eprintln!(rt; "{path}: {message}"),
+        None => eprintln!(rt; "{path}: {said}"),
+    }
+}
+
 // What a file holds, at most 4,096 bytes of it, and how many bytes that is.
 fn load(rt: &(impl Files + Eprint), path: &str, buffer: &mut [u8]) -> io::Result<usize>
     ensures { ReadsAtMost result buffer.new }
@@ -124,7 +145,7 @@ fn load(rt: &(impl Files + Eprint), path: &str, buffer: &mut [u8]) -> io::Result
     match fs::open(rt, path) {
         Ok(mut file) => read_full(&mut file, buffer),
         Err(error) => {
-            eprintln!(rt; "{path}: {error}")?;
+            note_unopened(rt, path, error)?;
             Ok(0)
         }
     }

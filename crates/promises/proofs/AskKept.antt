@@ -45,7 +45,7 @@ module _ (s : List ℕ) (address pc : ℕ) where
         case = answer_exactly_when s address pc;
         row = row_means s address pc;
         no_row = no_row_means s address pc;
-        no_function_lem = no_function_means s address pc;
+        no_function = no_function_means s address pc;
         rows_unread = no_row_read s address pc;
       }
 

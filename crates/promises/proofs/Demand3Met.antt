@@ -12,7 +12,7 @@ use Rattle.section.specs.Header.{layout_of}
 use Rattle.accept.specs.Computed.Checks.{verdict}
 use Rattle.accept.specs.declared.verdict.Verdict.TheVariants.{Accepted}
 use Rattle.lookup.specs.Finding.{finding_of}
-use Rattle.lookup.specs.Computed.Answers.{answer_after, lookup_of, look_in_lem}
+use Rattle.lookup.specs.Computed.Answers.{answer_after, lookup_of, look_in}
 use Rattle.lookup.proofs.CoveringLaws.{by_value}
 use Rattle.lookup.proofs.Exactly.{count_unsorted, count_halving, count_log, count_twenty}
 use Rattle.caller.specs.Computed.Caller as caller
@@ -28,8 +28,8 @@ use Rattle.promises.proofs.OrderLaws.{same_finding, same_shape}
 use Rattle.promises.proofs.SortedLaws.{same_compared}
 
 -- what a lookup finds in an accepted section
-finding_is : (s : List ℕ) → verdict s ≡ Accepted → (address pc : ℕ) → finding_of (lookup_of s address pc).outcome ≡ look_in_lem s address pc
-unfolding lookup_of answer_after look_in_lem
+finding_is : (s : List ℕ) → verdict s ≡ Accepted → (address pc : ℕ) → finding_of (lookup_of s address pc).outcome ≡ look_in s address pc
+unfolding lookup_of answer_after look_in
 finding_is s accepted address pc = rw accepted
 
 counts_ours : (s : List ℕ) → verdict s ≡ Accepted → (address pc : ℕ) → Counts ours s address pc
@@ -51,7 +51,7 @@ module _ (s t : List ℕ) (alike : Alike ours s t) where
   unfolding ours
   accepted-t = alike.also
 
-  looks-same : (address pc : ℕ) → look_in_lem s address pc ≡ look_in_lem t address pc
+  looks-same : (address pc : ℕ) → look_in s address pc ≡ look_in t address pc
   looks-same = same_finding s t alike.same
 
   rows_same : (address pc : ℕ) → finding_of (lookup_of s address pc).outcome ≡ finding_of (lookup_of t address pc).outcome

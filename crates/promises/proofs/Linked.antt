@@ -1,6 +1,6 @@
 -- There is an environment of the machine in which the name of each function means its code, with the code of all that it calls: that of
--- the look-up which lists them (`tie` of `prog.Linked`). So what `Returned` and `Ran` say of every environment that is wired for a
--- function's code is not said of nothing. Written by tools/linked.py.
+-- the look-up which lists them (`tie` of `prog.Linked`). So what is said of every environment that is wired for a function's code is not
+-- said of nothing. Written by tools/linked.py.
 -- Assumes nothing.
 use mathlib.Core.Path.{refl}
 use mathlib.Core.Bool.{false}

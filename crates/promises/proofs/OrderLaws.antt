@@ -21,7 +21,7 @@ use Rattle.section.specs.declared.row.Row.{Row}
 use Rattle.lookup.specs.Finding.{Finding, finds, refuses, finding_of}
 use Rattle.lookup.specs.Halving.{empty_function}
 use Rattle.lookup.specs.Numbers.{number_of_unfound}
-use Rattle.lookup.specs.Computed.Answers.{with_row, with_cover, outcome, answer, answer_of, look_in_lem}
+use Rattle.lookup.specs.Computed.Answers.{with_row, with_cover, outcome, answer, answer_of, look_in}
 use Rattle.lookup.specs.Computed.Covering.{covers, covering_from, covering, cover_of}
 use Rattle.lookup.specs.Computed.Rows.{row_for}
 use Rattle.lookup.specs.declared.rows.Scan.{Scan}
@@ -116,8 +116,8 @@ finding_back (refuses number) = refl
 finding_set : IsSet Finding
 finding_set = hedberg (by_parts finding_parts finding_from finding_back (×_discrete (List-discrete Row-discrete) ℕ_discrete))
 
-pub same_finding : (s t : List ℕ) → SameFunctions s t → (address pc : ℕ) → look_in_lem s address pc ≡ look_in_lem t address pc
-unfolding look_in_lem answer_of answer
+pub same_finding : (s t : List ℕ) → SameFunctions s t → (address pc : ℕ) → look_in s address pc ≡ look_in t address pc
+unfolding look_in answer_of answer
 same_finding s t same address pc =
     let d = distance address pc in
     finding_among_lem d (functions_of s)

@@ -11,7 +11,7 @@ use Rattle.accept.specs.declared.verdict.Verdict.TheVariants.{Accepted}
 use Rattle.accept.proofs.TriedAgreement.{verdict_agrees}
 use Rattle.lookup.specs.Finding.{finding_of}
 use Rattle.lookup.specs.Scanned.{LookAlike}
-use Rattle.lookup.specs.Computed.Answers.{answer_after, lookup_of, look_in_lem}
+use Rattle.lookup.specs.Computed.Answers.{answer_after, lookup_of, look_in}
 use Rattle.lookup.proofs.AnswerAgreement.{answer_agrees}
 use Rattle.caller.specs.Frame.{asked_of}
 use Rattle.caller.specs.Computed.Caller.{look_at, step_after, step_of, step_in}
@@ -27,22 +27,22 @@ use Rattle.promises.proofs.Kept.{kept_are_ours}
 
 module _ (s t : List ℕ) (accepted : verdict s ≡ Accepted) (also : verdict t ≡ Accepted) where
   -- without the indexes and the count
-  one-finding : (address pc : ℕ) → LookAlike s t (distance address pc) → look_in_lem s address pc ≡ look_in_lem t address pc
-  unfolding look_in_lem lookup_of answer_after
+  one-finding : (address pc : ℕ) → LookAlike s t (distance address pc) → look_in s address pc ≡ look_in t address pc
+  unfolding look_in lookup_of answer_after
   one-finding address pc alike =
       ap (λ answer. finding_of answer.outcome) (rw (accepted, also) at (answer_agrees s t accepted also address pc alike))
 
   -- by the PC asked; where there is none, no lookup is made in either
   checked-step : (stack : List ℕ) (process : Process) (registers : Registers) (asked : Asked) → asked_of registers ≡ asked
       → ((pc : ℕ) → asked_of registers ≡ At pc → LookAlike s t (distance process.section pc))
-      → step_of (shape_of s) (look_in_lem s process.section) stack process registers ≡ step_of (shape_of t) (look_in_lem t process.section) stack process registers
+      → step_of (shape_of s) (look_in s process.section) stack process registers ≡ step_of (shape_of t) (look_in t process.section) stack process registers
   unfolding look_at
   checked-step stack process registers Nowhere e alike =
       let nothing = (nowhere_exactly_when registers).0 e in
       no_lookup registers nothing _ _ stack process ∙ sym (no_lookup registers nothing _ _ stack process)
   checked-step stack process registers (At pc) e alike =
       let here = alike pc e in
-      through_finding (shape_of s) (shape_of t) (look_in_lem s process.section) (look_in_lem t process.section) stack process registers
+      through_finding (shape_of s) (shape_of t) (look_in s process.section) (look_in t process.section) stack process registers
       (shape_agrees s t here.header)
       (rw e (one-finding process.section pc here))
 

@@ -14,7 +14,7 @@ use base.Fml.{GName, ftrue}
 use base.Logic.{ent, emp}
 use prog.AdequacyRun.{start_mem}
 use prog.Memory.{Memory}
-use prog.Routine.{Env}
+use prog.Routine.{Routine, Env}
 use prog.Wired.{Wired}
 use ghost.Atoms.{meaning}
 use types.Kit.{‵, raw, ◌⊛◌, ◌$◌, ◌∵◌, !, qed, move, keep, drop, split, split3, fsplit, done}
@@ -56,7 +56,7 @@ use Rattle.promises.specs.AskCall.{exported_ask}
 use Rattle.promises.specs.Exported.{exported}
 use Rattle.promises.specs.FunctionCall.{exported_function}
 use Rattle.promises.specs.RowsCall.{exported_rows}
-use Rattle.promises.specs.Returns.{Assertion, ◌∗◌, ◌has◌, StandsFor, HandedBack}
+use Rattle.promises.specs.Returns.{Assertion, ◌∗◌, ◌has◌, StandsFor, HandedBack, Returns}
 use Rattle.promises.specs.Runs.{Runs, Bytes, whole, process_value, ProcessFits, registers_value, RegistersFit, rows_value, RowsFit, Words, WithBuffer, BufferHas}
 use Rattle.promises.proofs.BufferLaws.{Buffer, words, words_kept, lends_words, can_be_stored, with_buffer, buffer_has}
 use Rattle.promises.proofs.ExportedKept.{exports_give}
@@ -96,79 +96,108 @@ the_registers registers fit = struct_laws.makes registers-type.the_type register
 the_rows : (rows : RowsInC) → RowsFit rows → ent 𝓤 (emp 𝓤) (meaning 𝓤 H A ((rows-type.the_row).own_val rows (rows_value rows ∷ [])))
 the_rows rows fit = struct_laws.makes rows-type.the_type rows-laws.the_plain W rows (rows_value rows ∷ []) fit
 
--- ---- the runs
+-- ---- the runs, of any routine that returns so, and of what the functions' names mean
 
-pub exported_check_runs : (γ : Env) → Wired γ exported-check.Symbol.code → (s : List ℕ) → Bytes s
-    → Runs (γ exported-check.Symbol.name) (whole 0 s ∷ []) (start_mem s []) (λ value after. StandsFor verdict-type.the_row (exported.check s) value)
-exported_check_runs γ wired s bytes =
+pub check_runs : (routine : Routine) → Returns exported-check.Kinds.ps exported-check.Kinds.r exported-check.Reads.Learnt routine → (s : List ℕ) → Bytes s
+    → Runs routine (whole 0 s ∷ []) (start_mem s []) (λ value after. StandsFor verdict-type.the_row (exported.check s) value)
+check_runs routine returns s bytes =
     ∥∥₁_elim (and_slice (emp 𝓤) 0 s 0 bytes (nothing_yet (one_block s bytes))) ∥∥₁_prop λ lent.
     let (α, δ, all) = lent in
     let κs : Lfts 1 = (α ∷ [], tt) in
     let a : Dens κs exported-check.Kinds.ps = (referred 0 s, tt) in
-    runs (exported_check_returns γ wired) κs tt (full_share, tt) a (whole 0 s ∷ [], tt) all (λ z w. (exports_give.check κs a z).0)
+    runs returns κs tt (full_share, tt) a (whole 0 s ∷ [], tt) all (λ z w. (exports_give.check κs a z).0)
 
-pub exported_function_at_runs : (γ : Env) → Wired γ exported-function_at.Symbol.code → (s : List ℕ) (index : ℕ) → Bytes s → index < 2 ^ 64
-    → Runs (γ exported-function_at.Symbol.name) (whole 0 s ∷ vint w64 index ∷ []) (start_mem s [])
+pub exported_check_runs : (γ : Env) → Wired γ exported-check.Symbol.code → (s : List ℕ) → Bytes s
+    → Runs (γ exported-check.Symbol.name) (whole 0 s ∷ []) (start_mem s []) (λ value after. StandsFor verdict-type.the_row (exported.check s) value)
+exported_check_runs γ wired = check_runs (γ exported-check.Symbol.name) (exported_check_returns γ wired)
+
+pub function_at_runs : (routine : Routine) → Returns exported-function_at.Kinds.ps exported-function_at.Kinds.r exported-function_at.Reads.Learnt routine → (s : List ℕ) (index : ℕ) → Bytes s → index < 2 ^ 64
+    → Runs routine (whole 0 s ∷ vint w64 index ∷ []) (start_mem s [])
     (λ value after. StandsFor function-type.the_row (exported_function s index) value)
 unfolding exported_function
-exported_function_at_runs γ wired s index bytes index-fits =
+function_at_runs routine returns s index bytes index-fits =
     ∥∥₁_elim (and_slice (emp 𝓤) 0 s 0 bytes (and_value (word index index-fits) (nothing_yet (one_block s bytes)))) ∥∥₁_prop λ lent.
     let (α, δ, all) = lent in
     let κs : Lfts 1 = (α ∷ [], tt) in
     let a : Dens κs exported-function_at.Kinds.ps = (referred 0 s, (index, tt)) in
-    runs (exported_function_at_returns γ wired) κs tt (full_share, tt) a (whole 0 s ∷ [], (vint w64 index ∷ [], tt)) all (λ z w allowed. allowed)
+    runs returns κs tt (full_share, tt) a (whole 0 s ∷ [], (vint w64 index ∷ [], tt)) all (λ z w allowed. allowed)
 
-pub exported_rows_of_runs : (γ : Env) → Wired γ exported-rows_of.Symbol.code → (s : List ℕ) (index : ℕ) → Bytes s → index < 2 ^ 64
-    → Runs (γ exported-rows_of.Symbol.name) (whole 0 s ∷ vint w64 index ∷ []) (start_mem s [])
+pub exported_function_at_runs : (γ : Env) → Wired γ exported-function_at.Symbol.code → (s : List ℕ) (index : ℕ) → Bytes s → index < 2 ^ 64
+    → Runs (γ exported-function_at.Symbol.name) (whole 0 s ∷ vint w64 index ∷ []) (start_mem s [])
+    (λ value after. StandsFor function-type.the_row (exported_function s index) value)
+exported_function_at_runs γ wired = function_at_runs (γ exported-function_at.Symbol.name) (exported_function_at_returns γ wired)
+
+pub rows_of_runs : (routine : Routine) → Returns exported-rows_of.Kinds.ps exported-rows_of.Kinds.r exported-rows_of.Reads.Learnt routine → (s : List ℕ) (index : ℕ) → Bytes s → index < 2 ^ 64
+    → Runs routine (whole 0 s ∷ vint w64 index ∷ []) (start_mem s [])
     (λ value after. StandsFor rows-type.the_row (exported_rows.begin s index) value)
 unfolding exported_rows
-exported_rows_of_runs γ wired s index bytes index-fits =
+rows_of_runs routine returns s index bytes index-fits =
     ∥∥₁_elim (and_slice (emp 𝓤) 0 s 0 bytes (and_value (word index index-fits) (nothing_yet (one_block s bytes)))) ∥∥₁_prop λ lent.
     let (α, δ, all) = lent in
     let κs : Lfts 1 = (α ∷ [], tt) in
     let a : Dens κs exported-rows_of.Kinds.ps = (referred 0 s, (index, tt)) in
-    runs (exported_rows_of_returns γ wired) κs tt (full_share, tt) a (whole 0 s ∷ [], (vint w64 index ∷ [], tt)) all (λ z w allowed. allowed)
+    runs returns κs tt (full_share, tt) a (whole 0 s ∷ [], (vint w64 index ∷ [], tt)) all (λ z w allowed. allowed)
 
-pub exported_next_row_runs : (γ : Env) → Wired γ exported-next_row.Symbol.code → (s : List ℕ) (rows : RowsInC) → Bytes s → RowsFit rows
-    → Runs (γ exported-next_row.Symbol.name) (whole 0 s ∷ rows_value rows ∷ []) (start_mem s [])
+pub exported_rows_of_runs : (γ : Env) → Wired γ exported-rows_of.Symbol.code → (s : List ℕ) (index : ℕ) → Bytes s → index < 2 ^ 64
+    → Runs (γ exported-rows_of.Symbol.name) (whole 0 s ∷ vint w64 index ∷ []) (start_mem s [])
+    (λ value after. StandsFor rows-type.the_row (exported_rows.begin s index) value)
+exported_rows_of_runs γ wired = rows_of_runs (γ exported-rows_of.Symbol.name) (exported_rows_of_returns γ wired)
+
+pub next_row_runs : (routine : Routine) → Returns exported-next_row.Kinds.ps exported-next_row.Kinds.r exported-next_row.Reads.Learnt routine → (s : List ℕ) (rows : RowsInC) → Bytes s → RowsFit rows
+    → Runs routine (whole 0 s ∷ rows_value rows ∷ []) (start_mem s [])
     (λ value after. StandsFor row_type.the_row (exported_rows.next s rows) value)
 unfolding exported_rows
-exported_next_row_runs γ wired s rows bytes rows_fit =
+next_row_runs routine returns s rows bytes rows_fit =
     ∥∥₁_elim (and_slice (emp 𝓤) 0 s 0 bytes (and_value (the_rows rows rows_fit) (nothing_yet (one_block s bytes)))) ∥∥₁_prop λ lent.
     let (α, δ, all) = lent in
     let κs : Lfts 1 = (α ∷ [], tt) in
     let a : Dens κs exported-next_row.Kinds.ps = (referred 0 s, (rows, tt)) in
-    runs (exported_next_row_returns γ wired) κs tt (full_share, tt) a (whole 0 s ∷ [], (rows_value rows ∷ [], tt)) all (λ z w allowed. allowed)
+    runs returns κs tt (full_share, tt) a (whole 0 s ∷ [], (rows_value rows ∷ [], tt)) all (λ z w allowed. allowed)
 
-pub exported_lookup_runs : (γ : Env) → Wired γ exported-lookup.Symbol.code → (s : List ℕ) (address pc : ℕ) → Bytes s → address < 2 ^ 64 → pc < 2 ^ 64
-    → Runs (γ exported-lookup.Symbol.name) (whole 0 s ∷ vint w64 address ∷ vint w64 pc ∷ []) (start_mem s [])
+pub exported_next_row_runs : (γ : Env) → Wired γ exported-next_row.Symbol.code → (s : List ℕ) (rows : RowsInC) → Bytes s → RowsFit rows
+    → Runs (γ exported-next_row.Symbol.name) (whole 0 s ∷ rows_value rows ∷ []) (start_mem s [])
+    (λ value after. StandsFor row_type.the_row (exported_rows.next s rows) value)
+exported_next_row_runs γ wired = next_row_runs (γ exported-next_row.Symbol.name) (exported_next_row_returns γ wired)
+
+pub lookup_runs : (routine : Routine) → Returns exported-lookup.Kinds.ps exported-lookup.Kinds.r exported-lookup.Reads.Learnt routine → (s : List ℕ) (address pc : ℕ) → Bytes s → address < 2 ^ 64 → pc < 2 ^ 64
+    → Runs routine (whole 0 s ∷ vint w64 address ∷ vint w64 pc ∷ []) (start_mem s [])
     (λ value after. StandsFor answer-type.the_row (exported.lookup s address pc) value)
-exported_lookup_runs γ wired s address pc bytes address-fits pc-fits =
+lookup_runs routine returns s address pc bytes address-fits pc-fits =
     ∥∥₁_elim
     (and_slice (emp 𝓤) 0 s 0 bytes (and_value (word address address-fits) (and_value (word pc pc-fits) (nothing_yet (one_block s bytes)))))
     ∥∥₁_prop λ lent.
     let (α, δ, all) = lent in
     let κs : Lfts 1 = (α ∷ [], tt) in
     let a : Dens κs exported-lookup.Kinds.ps = (referred 0 s, (address, (pc, tt))) in
-    runs (exported_lookup_returns γ wired) κs tt (full_share, tt) a (whole 0 s ∷ [], (vint w64 address ∷ [], (vint w64 pc ∷ [], tt))) all (λ z w. (exports_give.lookup κs a z).0)
+    runs returns κs tt (full_share, tt) a (whole 0 s ∷ [], (vint w64 address ∷ [], (vint w64 pc ∷ [], tt))) all (λ z w. (exports_give.lookup κs a z).0)
 
-pub exported_ask_runs : (γ : Env) → Wired γ exported-ask.Symbol.code → (s : List ℕ) (address pc : ℕ) → Bytes s → address < 2 ^ 64 → pc < 2 ^ 64
-    → Runs (γ exported-ask.Symbol.name) (whole 0 s ∷ vint w64 address ∷ vint w64 pc ∷ []) (start_mem s [])
+pub exported_lookup_runs : (γ : Env) → Wired γ exported-lookup.Symbol.code → (s : List ℕ) (address pc : ℕ) → Bytes s → address < 2 ^ 64 → pc < 2 ^ 64
+    → Runs (γ exported-lookup.Symbol.name) (whole 0 s ∷ vint w64 address ∷ vint w64 pc ∷ []) (start_mem s [])
+    (λ value after. StandsFor answer-type.the_row (exported.lookup s address pc) value)
+exported_lookup_runs γ wired = lookup_runs (γ exported-lookup.Symbol.name) (exported_lookup_returns γ wired)
+
+pub ask_runs : (routine : Routine) → Returns exported-ask.Kinds.ps exported-ask.Kinds.r exported-ask.Reads.Learnt routine → (s : List ℕ) (address pc : ℕ) → Bytes s → address < 2 ^ 64 → pc < 2 ^ 64
+    → Runs routine (whole 0 s ∷ vint w64 address ∷ vint w64 pc ∷ []) (start_mem s [])
     (λ value after. StandsFor answer-type.the_row (exported_ask s address pc) value)
 unfolding exported_ask
-exported_ask_runs γ wired s address pc bytes address-fits pc-fits =
+ask_runs routine returns s address pc bytes address-fits pc-fits =
     ∥∥₁_elim
     (and_slice (emp 𝓤) 0 s 0 bytes (and_value (word address address-fits) (and_value (word pc pc-fits) (nothing_yet (one_block s bytes)))))
     ∥∥₁_prop λ lent.
     let (α, δ, all) = lent in
     let κs : Lfts 1 = (α ∷ [], tt) in
     let a : Dens κs exported-ask.Kinds.ps = (referred 0 s, (address, (pc, tt))) in
-    runs (exported_ask_returns γ wired) κs tt (full_share, tt) a (whole 0 s ∷ [], (vint w64 address ∷ [], (vint w64 pc ∷ [], tt))) all (λ z w allowed. allowed)
+    runs returns κs tt (full_share, tt) a (whole 0 s ∷ [], (vint w64 address ∷ [], (vint w64 pc ∷ [], tt))) all (λ z w allowed. allowed)
 
-pub exported_caller_runs : (γ : Env) → Wired γ exported-caller.Symbol.code → (s stack : List ℕ) (process : Process) (registers : Registers) → Bytes s → Bytes stack → ProcessFits process → RegistersFit registers
-    → Runs (γ exported-caller.Symbol.name) (whole 0 s ∷ whole 1 stack ∷ process_value process ∷ registers_value registers ∷ []) (start_mem s stack)
+pub exported_ask_runs : (γ : Env) → Wired γ exported-ask.Symbol.code → (s : List ℕ) (address pc : ℕ) → Bytes s → address < 2 ^ 64 → pc < 2 ^ 64
+    → Runs (γ exported-ask.Symbol.name) (whole 0 s ∷ vint w64 address ∷ vint w64 pc ∷ []) (start_mem s [])
+    (λ value after. StandsFor answer-type.the_row (exported_ask s address pc) value)
+exported_ask_runs γ wired = ask_runs (γ exported-ask.Symbol.name) (exported_ask_returns γ wired)
+
+pub caller_runs : (routine : Routine) → Returns exported-caller.Kinds.ps exported-caller.Kinds.r exported-caller.Reads.Learnt routine → (s stack : List ℕ) (process : Process) (registers : Registers) → Bytes s → Bytes stack → ProcessFits process → RegistersFit registers
+    → Runs routine (whole 0 s ∷ whole 1 stack ∷ process_value process ∷ registers_value registers ∷ []) (start_mem s stack)
     (λ value after. StandsFor step-type.the_row (exported.step s stack process registers) value)
-exported_caller_runs γ wired s stack process registers section-bytes stack-bytes process-fits registers-fit =
+caller_runs routine returns s stack process registers section-bytes stack-bytes process-fits registers-fit =
     ∥∥₁_elim
     (and_slice (Block 0 s ∗ emp 𝓤) 1 stack 1 stack-bytes
     (and_value (the_process process process-fits) (and_value (the_registers registers registers-fit) (nothing_yet (two_blocks s stack section-bytes stack-bytes)))))
@@ -178,7 +207,12 @@ exported_caller_runs γ wired s stack process registers section-bytes stack-byte
     let (α, δ, all) = lent in
     let κs : Lfts 2 = (α ∷ [], (β ∷ [], tt)) in
     let a : Dens κs exported-caller.Kinds.ps = (referred 0 s, (referred 1 stack, (process, (registers, tt)))) in
-    runs (exported_caller_returns γ wired) κs tt (full_share, (full_share, tt)) a (whole 0 s ∷ [], (whole 1 stack ∷ [], (process_value process ∷ [], (registers_value registers ∷ [], tt)))) all (λ z w. (exports_give.step κs a z).0)
+    runs returns κs tt (full_share, (full_share, tt)) a (whole 0 s ∷ [], (whole 1 stack ∷ [], (process_value process ∷ [], (registers_value registers ∷ [], tt)))) all (λ z w. (exports_give.step κs a z).0)
+
+pub exported_caller_runs : (γ : Env) → Wired γ exported-caller.Symbol.code → (s stack : List ℕ) (process : Process) (registers : Registers) → Bytes s → Bytes stack → ProcessFits process → RegistersFit registers
+    → Runs (γ exported-caller.Symbol.name) (whole 0 s ∷ whole 1 stack ∷ process_value process ∷ registers_value registers ∷ []) (start_mem s stack)
+    (λ value after. StandsFor step-type.the_row (exported.step s stack process registers) value)
+exported_caller_runs γ wired = caller_runs (γ exported-caller.Symbol.name) (exported_caller_returns γ wired)
 
 -- ---- the trace
 
@@ -202,15 +236,15 @@ module _ (κs : Lfts 3) (qs : Shares 3) (a : Dens κs exported-trace.Kinds.ps) (
       move ! (3 ∷ []) $ split3 ! $ move ! (2 ∷ []) $ split ! $ keep ! (0 ∷ 4 ∷ 8 ∷ []) $ move ! (2 ∷ []) $ split3 ! $ move ! (2 ∷ []) $ split ! $
       keep ! (4 ∷ 5 ∷ 0 ∷ []) $ move ! (1 ∷ []) $ fsplit ! $ keep ! (2 ∷ 0 ∷ 3 ∷ []) $ done !
 
-pub exported_trace_runs : (γ : Env) → Wired γ exported-trace.Symbol.code → (s stack : List ℕ) (process : Process) (registers : Registers) (limit : ℕ) (old : List ℕ) (σ : Memory)
+pub trace_runs : (routine : Routine) → Returns exported-trace.Kinds.ps exported-trace.Kinds.r exported-trace.Reads.Learnt routine → (s stack : List ℕ) (process : Process) (registers : Registers) (limit : ℕ) (old : List ℕ) (σ : Memory)
     → Bytes s → Bytes stack → ProcessFits process → RegistersFit registers → limit < 2 ^ 64 → Words old → WithBuffer s stack old σ
-    → Runs (γ exported-trace.Symbol.name)
+    → Runs routine
     (whole 0 s ∷ whole 1 stack ∷ process_value process ∷ registers_value registers ∷ vint w64 limit ∷ whole 2 old ∷ []) σ
     (λ value after.
     StandsFor traced-type.the_row (exported.trace s stack process registers limit old).answer value
     × BufferHas after (length old) (exported.trace s stack process registers limit old).words)
 unfolding handed_as
-exported_trace_runs γ wired s stack process registers limit old σ section-bytes stack-bytes process-fits registers-fit limit-fits old-words is-stored =
+trace_runs routine returns s stack process registers limit old σ section-bytes stack-bytes process-fits registers-fit limit-fits old-words is-stored =
     let blocks : Assertion = Block 1 stack ∗ Block 0 s ∗ emp 𝓤 in
     ∥∥₁_elim
     (and_lent (Buffer (length old) old) (words 2 old) (words_kept 2 old) (lends_words 2 old (omega arith, omega arith))
@@ -227,7 +261,7 @@ exported_trace_runs γ wired s stack process registers limit old σ section-byte
     let κs : Lfts 3 = (α ∷ [], (β ∷ [], (μ ∷ [], tt))) in
     let qs : Shares 3 = (full_share, (full_share, (full_share, tt))) in
     let a : Dens κs exported-trace.Kinds.ps = (referred 0 s, (referred 1 stack, (process, (registers, (limit, (referred_to_write 2 old ν, tt)))))) in
-    ∥∥₁_elim (run_ends (exported_trace_returns γ wired) κs tt qs a (whole 0 s ∷ [], (whole 1 stack ∷ [], (process_value process ∷ [], (registers_value registers ∷ [], (vint w64 limit ∷ [], (whole 2 old ∷ [], tt)))))) all) ∥∥₁_prop λ end.
+    ∥∥₁_elim (run_ends returns κs tt qs a (whole 0 s ∷ [], (whole 1 stack ∷ [], (process_value process ∷ [], (registers_value registers ∷ [], (vint w64 limit ∷ [], (whole 2 old ∷ [], tt)))))) all) ∥∥₁_prop λ end.
     let left : List ℕ = end.last.1.1.1.1.1.0 in
     let same = (exports_give.trace κs a end.reply left).0 end.allowed in
     ∥∥₁_map
@@ -243,3 +277,12 @@ exported_trace_runs γ wired s stack process registers limit old σ section-byte
         subst (λ ws. BufferHas end.after (length old) ws) (ap (λ both. both.words) same) loaded,
       ),
     )
+
+pub exported_trace_runs : (γ : Env) → Wired γ exported-trace.Symbol.code → (s stack : List ℕ) (process : Process) (registers : Registers) (limit : ℕ) (old : List ℕ) (σ : Memory)
+    → Bytes s → Bytes stack → ProcessFits process → RegistersFit registers → limit < 2 ^ 64 → Words old → WithBuffer s stack old σ
+    → Runs (γ exported-trace.Symbol.name)
+    (whole 0 s ∷ whole 1 stack ∷ process_value process ∷ registers_value registers ∷ vint w64 limit ∷ whole 2 old ∷ []) σ
+    (λ value after.
+    StandsFor traced-type.the_row (exported.trace s stack process registers limit old).answer value
+    × BufferHas after (length old) (exported.trace s stack process registers limit old).words)
+exported_trace_runs γ wired = trace_runs (γ exported-trace.Symbol.name) (exported_trace_returns γ wired)

@@ -57,7 +57,7 @@ pub record AnswerMeans (s : List ℕ) (address pc : ℕ) (answer : AskAnswer) : 
   pub no_row : (i compared : ℕ) → answer ≡ NoRow i compared
       → LandsOn s (distance address pc) i × Covers s (distance address pc) i × OwnRulesHold s i
   -- 21: there is none, or it does not cover; and no row is read
-  pub no_function_lem : (compared : ℕ) → answer ≡ NoFunction compared → (i : ℕ) → LandsOn s (distance address pc) i → ¬ Covers s (distance address pc) i
+  pub no_function : (compared : ℕ) → answer ≡ NoFunction compared → (i : ℕ) → LandsOn s (distance address pc) i → ¬ Covers s (distance address pc) i
   pub rows_unread : (compared : ℕ) → answer ≡ NoFunction compared → (p : ℕ) → ReadBy s address pc p
       → InSpan 0 28 p ⊎ ((i : ℕ) × Compared s (distance address pc) i × InSpan ((layout_of s).table + 20 * i) 20 p)
 

@@ -26,7 +26,7 @@ use Rattle.listing.proofs.lines.cursor_at.Reads as one-reads
 use Rattle.listing.proofs.lines.cursor_of.Kinds as cursor-kinds
 use Rattle.listing.proofs.lines.cursor_of.Reads as cursor-reads
 use Rattle.listing.proofs.lines.next_line.Kinds as line-kinds
-use Rattle.listing.proofs.lines.next_line.Reads as line_reads_lem
+use Rattle.listing.proofs.lines.next_line.Reads as line-reads
 use Rattle.listing.specs.contracts.reader.next_row as move
 use Rattle.listing.proofs.reader.place_of.Kinds as place-kinds
 use Rattle.listing.proofs.reader.place_of.Reads as place-reads
@@ -121,7 +121,7 @@ pub record KeepsLines (start : List ℕ → Cursor) (one : List ℕ → ℕ → 
   pub ones : (κs : Lfts 1) (a : Dens κs one-kinds.ps)
       → Allows one-kinds.ps one-kinds.r one-reads.Learnt κs a (one a.0.now a.1.0) (tt, (tt, tt))
   pub turns : (κs : Lfts 1) (a : Dens κs line-kinds.ps)
-      → Allows line-kinds.ps line-kinds.r line_reads_lem.Learnt κs a (turn a.0.now a.1.0) (tt, (tt, tt))
+      → Allows line-kinds.ps line-kinds.r line-reads.Learnt κs a (turn a.0.now a.1.0) (tt, (tt, tt))
 
 abbrev pub row_calls_of : (List ℕ → ℕ → RowPlace) → (List ℕ → RowPlace → RowTurn) → RowCalls
 row_calls_of start turn =

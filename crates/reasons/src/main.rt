@@ -19,7 +19,7 @@ use caller::registers::{Process, Registers};
 use numbers::field::{Order, u64_at};
 use std::io::{BufWriter, Read, Write};
 use std::rt::Files;
-use std::{fs, io};
+use std::{fs, io, str};
 
 // The most bytes of records. The room has one more, so that a longer file fills it.
 const MOST: usize = 4_000_000;
@@ -139,6 +139,27 @@ fn read_full(input: &mut impl Read, buffer: &mut [u8]) -> io::Result<usize>
     Ok(done)
 }
 
+// The bytes that the system's message for an error has, at most.
+const MESSAGE: usize = 256;
+
+// Says of a file that cannot be opened what the system says of it, without the number that std puts behind it.
+fn note_unopened(rt: &impl Eprint, path: &str, error: io::Error) -> io::Result<()> {
+    let mut room = [0u8; MESSAGE];
+    let mut rest: &mut [u8] = &mut room;
+    let _ = write!(rest, "{error}");
+    let end = MESSAGE.saturating_sub(rest.len());
+    let Some(said) = room.get(..end) else {
+        return Ok(());
+    };
+    let Ok(said) = str::from_utf8(said) else {
+        return Ok(());
+    };
+    match said.split_once(" (os error ") {
+        Some((message, _)) => eprintln!(rt; "{path}: {message}"),
+        None => eprintln!(rt; "{path}: {said}"),
+    }
+}
+
 // What a file holds, as far as there is room, and how many bytes that is.
 fn load(rt: &(impl Files + Eprint), path: &str, buffer: &mut [u8]) -> io::Result<usize>
     ensures { ReadsAtMost result buffer.new }
@@ -146,7 +167,7 @@ fn load(rt: &(impl Files + Eprint), path: &str, buffer: &mut [u8]) -> io::Result
     match fs::open(rt, path) {
         Ok(mut file) => read_full(&mut file, buffer),
         Err(error) => {
-            eprintln!(rt; "{path}: {error}")?;
+            note_unopened(rt, path, error)?;
             Ok(0)
         }
     }

@@ -80,7 +80,7 @@ module _ (stack : List ℕ) (process : Process) (limit : ℕ) (buffer : List ℕ
   unfolding door_fault
   door-opens =
       Iff.trans (table_sound door-table) (
-        λ h. record { in_memory_lem = omega arith; allowed = omega arith; room = omega arith },
+        λ h. record { in_memory = omega arith; allowed = omega arith; room = omega arith },
         λ h. (omega arith, (omega arith, (omega arith, tt))),
       )
 
@@ -128,7 +128,7 @@ module _ (stack : List ℕ) (process : Process) (limit : ℕ) (buffer : List ℕ
 
   pub not_open : (number : ℕ) → AtDoor stack process limit buffer number → ¬ DoorOpen stack process limit buffer
   not_open number at opened =
-      ⊎_elim (λ h. opened.in_memory_lem h.1) (⊎_elim (λ h. opened.allowed h.2) (λ h. opened.room h.3)) at
+      ⊎_elim (λ h. opened.in_memory h.1) (⊎_elim (λ h. opened.allowed h.2) (λ h. opened.room h.3)) at
 
   -- what a walk may rely on where nothing was refused
   pub door_allows : door_fault stack process limit (length buffer) ≡ Sound → (limit ≤ 256) × (3 * in_force limit ≤ length buffer)

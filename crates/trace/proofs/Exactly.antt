@@ -17,7 +17,7 @@ use Rattle.accept.specs.Computed.Checks.{verdict}
 use Rattle.accept.specs.declared.verdict.Verdict.TheVariants as verdict
 use Rattle.accept.proofs.Exactly.{accepted_exactly_when, given_exactly_when, by_number}
 use Rattle.accept.proofs.FaultLaws.{accepted_or_refused}
-use Rattle.lookup.specs.Computed.Answers.{look_in_lem}
+use Rattle.lookup.specs.Computed.Answers.{look_in}
 use Rattle.caller.specs.Cases.{Rule41, OnRefusal, CallerCase}
 use Rattle.caller.specs.Frame.{cfa_of_sp}
 use Rattle.caller.specs.Numbers.{Refusal, number_of_refusal, number_of_step_cause}
@@ -297,7 +297,7 @@ walk_through_step step other same limit registers = ap (λ f. walk_of f limit re
 
 pub trace_through_look : (s other stack : List ℕ) (process : Process) (registers : Registers) (limit : ℕ) (old : List ℕ)
     → verdict s ≡ verdict.Accepted → verdict other ≡ verdict.Accepted → shape_of s ≡ shape_of other
-    → ((pc : ℕ) → look_in_lem s process.section pc ≡ look_in_lem other process.section pc)
+    → ((pc : ℕ) → look_in s process.section pc ≡ look_in other process.section pc)
     → trace_of s stack process registers limit old ≡ trace_of other stack process registers limit old
 unfolding trace_of walk_in walk_after checked_walk
 trace_through_look s other stack process registers limit old accepted also shape look =

@@ -12,7 +12,7 @@ use Rattle.accept.specs.Given.{number_of_rule}
 use Rattle.accept.specs.Rules.{Obeys}
 use Rattle.accept.proofs.CauseLaws.{due_exactly_when}
 use Rattle.accept.proofs.Exactly.{accepted_exactly_when, given_exactly_when, refused_by_a_rule}
-use Rattle.lookup.specs.Computed.Answers.{look_in_lem}
+use Rattle.lookup.specs.Computed.Answers.{look_in}
 use Rattle.caller.specs.Cases.{WindowFits, OnRefusal, CallerCase}
 use Rattle.caller.specs.Numbers.{Refusal, number_of_refusal, number_of_step_cause, step_number}
 use Rattle.caller.specs.Computed.Caller.{step_of}
@@ -36,11 +36,11 @@ use Rattle.trace.proofs.NumberLaws.{trace_distinct}
 
 -- where the door is open, the window fits
 pub open_fits : {stack : List ℕ} {process : Process} {limit : ℕ} {buffer : List ℕ} → DoorOpen stack process limit buffer → WindowFits stack process
-open_fits opened = omega (arith, opened.in_memory_lem)
+open_fits opened = omega (arith, opened.in_memory)
 
 module _ (s stack : List ℕ) (process : Process) where
   abbrev pub step_at : Registers → Step
-  step_at = step_of (shape_of s) (look_in_lem s process.section) stack process
+  step_at = step_of (shape_of s) (look_in s process.section) stack process
 
   module _ (fits : WindowFits stack process) (obeys : Obeys s) where
     refuses-with : (registers : Registers) (number : ℕ) → Refusing step_at registers number → StepRefuses s stack process registers number

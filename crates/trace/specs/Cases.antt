@@ -35,7 +35,7 @@ AtDoor stack process limit buffer number =
 
 -- none of the three
 pub record DoorOpen (stack : List ℕ) (process : Process) (limit : ℕ) (buffer : List ℕ) : Type 0 where
-  pub in_memory_lem : ¬ Rule41 stack process
+  pub in_memory : ¬ Rule41 stack process
   pub allowed : ¬ LimitAbove limit
   pub room : ¬ TooFewWords limit buffer
 

@@ -16,7 +16,7 @@ use Rattle.accept.specs.Computed.Checks.{verdict}
 use Rattle.accept.specs.declared.verdict.Verdict.{Verdict}
 use Rattle.accept.specs.declared.verdict.Verdict.TheVariants as verdict
 use Rattle.lookup.specs.Finding.{Finding, finds, refuses}
-use Rattle.lookup.specs.Computed.Answers.{look_in_lem}
+use Rattle.lookup.specs.Computed.Answers.{look_in}
 use Rattle.caller.specs.Frame.{has_mark, asked_of, cfa_of, caller_sp}
 use Rattle.caller.specs.Signature.{is_signed, mask_of, clear}
 use Rattle.caller.specs.declared.place.Spot.{Spot}
@@ -147,4 +147,4 @@ step_of shape look stack process registers = from_finding shape stack process re
 unfoldable pub step_in : List ℕ → List ℕ → Process → Registers → Step
 step_in s stack process registers =
     if_fits stack process registers
-    (step_after registers (verdict s) (step_of (shape_of s) (look_in_lem s process.section) stack process registers))
+    (step_after registers (verdict s) (step_of (shape_of s) (look_in s process.section) stack process registers))

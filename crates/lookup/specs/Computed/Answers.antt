@@ -51,5 +51,5 @@ unfoldable pub lookup_of : List ℕ → ℕ → ℕ → Answer
 lookup_of s address pc = answer_after (verdict s) (answer_of s address pc)
 
 -- the finding at a PC in a section that was accepted
-unfoldable pub look_in_lem : List ℕ → ℕ → ℕ → Finding
-look_in_lem s address pc = finding_of (answer_of s address pc).outcome
+unfoldable pub look_in : List ℕ → ℕ → ℕ → Finding
+look_in s address pc = finding_of (answer_of s address pc).outcome

@@ -8,7 +8,7 @@ use Rattle.accept.specs.declared.verdict.Fault.{Fault}
 use Rattle.accept.specs.declared.verdict.Fault.TheVariants.{Sound, Breaks}
 use Rattle.accept.specs.declared.verdict.Verdict.{Verdict}
 use Rattle.accept.specs.declared.verdict.Verdict.TheVariants as verdict
-use Rattle.lookup.specs.Computed.Answers.{look_in_lem}
+use Rattle.lookup.specs.Computed.Answers.{look_in}
 use Rattle.caller.specs.Computed.Caller.{step_of}
 use Rattle.caller.specs.declared.registers.Registers.{Registers}
 use Rattle.caller.specs.declared.registers.Step.{Step}
@@ -49,7 +49,7 @@ walk_of step (suc left) registers = onward (step registers) (walk_of step left)
 
 -- the walk on a section that was accepted
 unfoldable pub checked_walk : List ℕ → List ℕ → Process → ℕ → Registers → Walk
-checked_walk s stack process limit registers = walk_of (step_of (shape_of s) (look_in_lem s process.section) stack process) limit registers
+checked_walk s stack process limit registers = walk_of (step_of (shape_of s) (look_in s process.section) stack process) limit registers
 
 -- ---- what is tried first
 

@@ -1,0 +1,3 @@
+pub mod Environment
+pub mod Exported
+pub mod Linked
