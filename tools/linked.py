@@ -122,7 +122,7 @@ def text_of(crate, of, below, all_of):
     return "\n".join(lines).rstrip("\n") + "\n"
 
 
-def text_of_all(crates, orders, all_of, source):
+def text_of_all(crates, orders, all_of, source, linked):
     """One look-up that has them all, and the functions whose return `source` states, wired in its environment."""
     cited = []
     returned = read(source)
@@ -150,20 +150,20 @@ def text_of_all(crates, orders, all_of, source):
     nested = "[]"
     for c in crates:
         nested = f"{c}.entries {nested}" if nested == "[]" else f"{c}.entries ({nested})"
-    lines += ["", "abbrev look : Symbol → Entry", f"look = in_entries ({nested})", "", "pub linked : Env", "linked = tie look", ""]
+    lines += ["", "abbrev look : Symbol → Entry", f"look = in_entries ({nested})", "", f"pub {linked} : Env", f"{linked} = tie look", ""]
     for c in crates:
         lines += [f"in_{c} : {c}.Finds look", f"in_{c} =", "    record {"]
         lines += [f"      {name_of(path)} = refl;" for path in orders[c]]
         lines += ["    }", ""]
     lines += [
-        "wired : (code : Code) → HasT look false code → Wired linked code",
-        "unfolding linked",
+        f"wired : (code : Code) → HasT look false code → Wired {linked} code",
+        f"unfolding {linked}",
         "wired code has = Has-Wired look (tie look) (tie-Follows look) code (no_threads look code has)",
         "",
     ]
     for theorem, alias, c, path in cited:
         given = "".join(f" in_{d}" for d in all_of[c]["needs"] + [c])
-        lines += [f"pub {theorem}_wired : Wired linked {alias}-symbol.code", f"{theorem}_wired = wired {alias}-symbol.code ({c}.{name_of(path)} look{given})", ""]
+        lines += [f"pub {theorem}_wired : Wired {linked} {alias}-symbol.code", f"{theorem}_wired = wired {alias}-symbol.code ({c}.{name_of(path)} look{given})", ""]
     return "\n".join(lines).rstrip("\n") + "\n"
 
 
@@ -186,10 +186,10 @@ def main(argv):
         print(crate, len(of), all_of[crate]["needs"])
     layers = [it for it in sorted(crates, key=below.index) if it != "suntimpani_c"]
     with open("crates/promises/proofs/Linked.antt", "w", encoding="utf-8") as f:
-        f.write(text_of_all(layers, orders, all_of, "crates/promises/proofs/Returned.antt"))
+        f.write(text_of_all(layers, orders, all_of, "crates/promises/proofs/Returned.antt", "linked"))
     if "suntimpani_c" in crates:
         with open("crates/suntimpani_c/proofs/Environment.antt", "w", encoding="utf-8") as f:
-            f.write(text_of_all(layers + ["suntimpani_c"], orders, all_of, "crates/suntimpani_c/proofs/Exported.antt"))
+            f.write(text_of_all(layers + ["suntimpani_c"], orders, all_of, "crates/suntimpani_c/proofs/Exported.antt", "linked_with_exports"))
 
 
 if __name__ == "__main__":

@@ -98,7 +98,10 @@ fn files_below(folder: &Path, below: &str, ending: &str, found: &mut Vec<(String
         let path = entry.expect("an entry").path();
         let name = format!("{below}/{}", path.file_name().expect("a name").to_string_lossy());
         if path.is_dir() {
-            files_below(&path, &name, ending, found);
+            // What the toolchain keeps of a crate is no part of it.
+            if !name.ends_with("/out") {
+                files_below(&path, &name, ending, found);
+            }
         } else if name.ends_with(ending) {
             found.push((name, fs::read_to_string(&path).expect("a text")));
         }

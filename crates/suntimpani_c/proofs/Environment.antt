@@ -33,8 +33,8 @@ use Rattle.suntimpani_c.proofs.suntimpani_trace.Symbol as c-trace-symbol
 abbrev look : Symbol → Entry
 look = in_entries (suntimpani_c.entries (suntimpani.entries (explain.entries (trace.entries (caller.entries (ask.entries (lookup.entries (listing.entries (accept.entries (section.entries (numbers.entries [])))))))))))
 
-pub linked : Env
-linked = tie look
+pub linked_with_exports : Env
+linked_with_exports = tie look
 
 in_numbers : numbers.Finds look
 in_numbers =
@@ -338,30 +338,30 @@ in_suntimpani_c =
       suntimpani_trace = refl;
     }
 
-wired : (code : Code) → HasT look false code → Wired linked code
-unfolding linked
+wired : (code : Code) → HasT look false code → Wired linked_with_exports code
+unfolding linked_with_exports
 wired code has = Has-Wired look (tie look) (tie-Follows look) code (no_threads look code has)
 
-pub suntimpani_check_wired : Wired linked c-check-symbol.code
+pub suntimpani_check_wired : Wired linked_with_exports c-check-symbol.code
 suntimpani_check_wired = wired c-check-symbol.code (suntimpani_c.suntimpani_check look in_numbers in_section in_accept in_listing in_lookup in_ask in_caller in_trace in_suntimpani in_suntimpani_c)
 
-pub suntimpani_function_at_wired : Wired linked c-function_at-symbol.code
+pub suntimpani_function_at_wired : Wired linked_with_exports c-function_at-symbol.code
 suntimpani_function_at_wired = wired c-function_at-symbol.code (suntimpani_c.suntimpani_function_at look in_numbers in_section in_accept in_listing in_lookup in_ask in_caller in_trace in_suntimpani in_suntimpani_c)
 
-pub suntimpani_rows_of_wired : Wired linked c-rows_of-symbol.code
+pub suntimpani_rows_of_wired : Wired linked_with_exports c-rows_of-symbol.code
 suntimpani_rows_of_wired = wired c-rows_of-symbol.code (suntimpani_c.suntimpani_rows_of look in_numbers in_section in_accept in_listing in_lookup in_ask in_caller in_trace in_suntimpani in_suntimpani_c)
 
-pub suntimpani_next_row_wired : Wired linked c-next_row-symbol.code
+pub suntimpani_next_row_wired : Wired linked_with_exports c-next_row-symbol.code
 suntimpani_next_row_wired = wired c-next_row-symbol.code (suntimpani_c.suntimpani_next_row look in_numbers in_section in_accept in_listing in_lookup in_ask in_caller in_trace in_suntimpani in_suntimpani_c)
 
-pub suntimpani_lookup_wired : Wired linked c-lookup-symbol.code
+pub suntimpani_lookup_wired : Wired linked_with_exports c-lookup-symbol.code
 suntimpani_lookup_wired = wired c-lookup-symbol.code (suntimpani_c.suntimpani_lookup look in_numbers in_section in_accept in_listing in_lookup in_ask in_caller in_trace in_suntimpani in_suntimpani_c)
 
-pub suntimpani_ask_wired : Wired linked c-ask-symbol.code
+pub suntimpani_ask_wired : Wired linked_with_exports c-ask-symbol.code
 suntimpani_ask_wired = wired c-ask-symbol.code (suntimpani_c.suntimpani_ask look in_numbers in_section in_accept in_listing in_lookup in_ask in_caller in_trace in_suntimpani in_suntimpani_c)
 
-pub suntimpani_caller_wired : Wired linked c-caller-symbol.code
+pub suntimpani_caller_wired : Wired linked_with_exports c-caller-symbol.code
 suntimpani_caller_wired = wired c-caller-symbol.code (suntimpani_c.suntimpani_caller look in_numbers in_section in_accept in_listing in_lookup in_ask in_caller in_trace in_suntimpani in_suntimpani_c)
 
-pub suntimpani_trace_wired : Wired linked c-trace-symbol.code
+pub suntimpani_trace_wired : Wired linked_with_exports c-trace-symbol.code
 suntimpani_trace_wired = wired c-trace-symbol.code (suntimpani_c.suntimpani_trace look in_numbers in_section in_accept in_listing in_lookup in_ask in_caller in_trace in_suntimpani in_suntimpani_c)
