@@ -20,7 +20,7 @@ MODULES = {"inner": "Inner", "computed": "Computed"}
 FILES = {"crates/promises/specs/Contracts.antt": "crates/promises/specs/StatedContracts.antt"}
 PATHS = [("Rattle.promises.specs.Contracts", "Rattle.promises.specs.StatedContracts")]
 # In these crates the word is a field or a module, and no lemma.
-OF_A_CRATE = {("promises", "no-function"): "no_function", ("trace", "in-memory"): "in_memory", ("promises", "line-reads"): "line-reads"}
+OF_A_CRATE = {("promises", "no-function"): "no_function", ("trace", "in-memory"): "in_memory", ("promises", "line_reads_lem"): "line-reads"}
 
 
 def snake(name):
