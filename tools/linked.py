@@ -75,96 +75,142 @@ def ordered(of, crate):
     return out
 
 
-def text_of(crate, of, below, all_of):
-    order = ordered(of, crate)
-    used = sorted({c for path in order for c, _ in of[path][1] if c != crate}, key=below.index)
-    needs = []
-    for c in used:
-        for d in all_of[c]["needs"] + [c]:
-            if d not in needs:
-                needs.append(d)
-    needs.sort(key=below.index)
-    all_of[crate] = {"needs": needs}
-    lines = [
-        "-- Each function of this crate with its code and the code of all that it calls, for a look-up of the machine that finds the functions",
-        "-- (`prog.Linked`). So there is an environment in which a function's name means its code. Written by tools/linked.py.",
-        "-- Assumes nothing.",
-        "use mathlib.Core.Path.{◌≡◌}",
-        "use mathlib.Core.Bool.{false}",
-        "use mathlib.Core.List.{◌∷◌}",
-        "use mir.Syntax.{Symbol}",
-        "use prog.Linked.{Entry, Entries}",
-        "use prog.LinkedThreads.{HasT}",
+def needs_of(crate, of, below, all_of):
+    """The crates whose functions this one's call, directly or not, in the order of crates.txt."""
+    used = {c for path in of for c, _ in of[path][1] if c != crate}
+    return sorted({d for c in used for d in [*all_of[c], c]}, key=below.index)
+
+
+def top_of(comment, uses):
+    return [*(f"-- {it}" for it in comment), "-- Assumes nothing.", *(f"use {it}" for it in uses)]
+
+
+def given_of(c, all_of, prefix="in_"):
+    return "".join(f" {prefix}{d}" for d in [*all_of[c], c])
+
+
+def has_of(crate, path, calls, all_of):
+    parts = [name_of(p) if c == crate else f"({c}.{name_of(p)} look{given_of(c, all_of)})" for c, p in calls]
+    return [
+        f"  pub {name_of(path)} : HasT look false {alias_of(path)}.code",
+        f"  {name_of(path)} = {alias_of(path)}.has look false here.{name_of(path)}" + "".join(" " + p for p in parts),
+        "",
     ]
-    for c in needs:
-        lines.append(f"use Rattle.{c}.proofs.Linked as {c}")
-    for path in order:
-        lines.append(f"use Rattle.{crate}.proofs.TheLinks.{crate}-{path.replace('.', '-')} as {alias_of(path)}")
+
+
+def text_of(crate, of, all_of):
+    order = ordered(of, crate)
+    lines = top_of(
+        [
+            "Each function of this crate with its code and the code of all that it calls, for a look-up of the machine that finds the functions",
+            "(`prog.Linked`). So there is an environment in which a function's name means its code. Written by tools/linked.py.",
+        ],
+        [
+            "mathlib.Core.Path.{◌≡◌}",
+            "mathlib.Core.Bool.{false}",
+            "mathlib.Core.List.{◌∷◌}",
+            "mir.Syntax.{Symbol}",
+            "prog.Linked.{Entry, Entries}",
+            "prog.LinkedThreads.{HasT}",
+            *(f"Rattle.{c}.proofs.Linked as {c}" for c in all_of[crate]),
+            *(f"Rattle.{crate}.proofs.TheLinks.{crate}-{path.replace('.', '-')} as {alias_of(path)}" for path in order),
+        ],
+    )
     lines += ["", "-- the functions with their code, before more", "abbrev pub entries : Entries → Entries", "entries more ="]
-    for path in order:
-        lines.append(f'    ("{of[path][0]}", {alias_of(path)}.entry) ∷')
+    lines += [f'    ("{of[path][0]}", {alias_of(path)}.entry) ∷' for path in order]
     lines += ["    more", "", "-- a look-up finds them", "pub record Finds (look : Symbol → Entry) : Type 0 where"]
-    for path in order:
-        lines.append(f'  pub {name_of(path)} : look "{of[path][0]}" ≡ {alias_of(path)}.entry')
-    head = "".join(f" (in_{c} : {c}.Finds look)" for c in needs)
+    lines += [f'  pub {name_of(path)} : look "{of[path][0]}" ≡ {alias_of(path)}.entry' for path in order]
+    head = "".join(f" (in_{c} : {c}.Finds look)" for c in all_of[crate])
     lines += ["", f"module _ (look : Symbol → Entry){head} (here : Finds look) where"]
     for path in order:
-        parts = []
-        for c, p in of[path][1]:
-            if c == crate:
-                parts.append(name_of(p))
-            else:
-                given = "".join(f" in_{d}" for d in all_of[c]["needs"] + [c])
-                parts.append(f"({c}.{name_of(p)} look{given})")
-        lines.append(f"  pub {name_of(path)} : HasT look false {alias_of(path)}.code")
-        lines.append(f"  {name_of(path)} = {alias_of(path)}.has look false here.{name_of(path)}" + "".join(" " + p for p in parts))
-        lines.append("")
+        lines += has_of(crate, path, of[path][1], all_of)
     return "\n".join(lines).rstrip("\n") + "\n"
 
 
-def text_of_all(crates, orders, all_of, source, linked):
-    """One look-up that has them all, and the functions whose return `source` states, wired in its environment."""
-    cited = []
+def found_of(crate, order, of_more, more):
+    """That a look-up finds the functions of `crate`: each is listed, with its code, and none before it has its name."""
+    head = [f"{of_more[0]}_{crate} : {of_more[1]}{crate}.Finds {more}", f"{of_more[0].split()[-1]}_{crate}{of_more[2]} =", "    record {"]
+    return [*head, *(f"      {name_of(path)} = refl;" for path in order), "    }", ""]
+
+
+def text_of_table(layers, orders):
+    """The list of all functions of the library, before more, and that a look-up in it finds them."""
+    listed = "more"
+    for c in reversed(layers):
+        listed = f"{c}.entries {listed}" if listed == "more" else f"{c}.entries ({listed})"
+    lines = top_of(
+        ["The table of all functions of the library with their code, before more, and that a look-up in it finds each. Written by", "tools/linked.py."],
+        ["mathlib.Core.Path.{refl}", "prog.Linked.{Entries, in_entries}", *(f"Rattle.{c}.proofs.Linked as {c}" for c in layers)],
+    )
+    lines += ["", "abbrev pub table : Entries → Entries", f"table more = {listed}", ""]
+    for c in layers:
+        lines += found_of(c, orders[c], ("pub table_has", "(more : Entries) → ", " more"), "(in_entries (table more))")
+    return "\n".join(lines).rstrip("\n") + "\n"
+
+
+def cited_of(source):
+    """The functions whose return `source` states: the theorem's name, the function's alias there, its crate and its path."""
     returned = read(source)
-    named = {m[3] or m[2].split(".")[-1]: (m[1], m[2]) for m in re.finditer(r"(?m)^use Rattle\.(\w+)\.proofs\.(\S+?)(?: as (\S+))?$", returned)}
-    for theorem, alias in re.findall(r"(?m)^pub (\w+)_returns : \(γ : Env\) → Wired γ (\S+)\.Symbol\.code", returned):
-        cited.append((theorem, alias, *named[alias]))
+    uses = re.finditer(r"(?m)^use Rattle\.(\w+)\.proofs\.(\S+?)(?: as (\S+))?$", returned)
+    named = {m[3] or m[2].split(".")[-1]: (m[1], m[2]) for m in uses}
+    stated = re.findall(r"(?m)^pub (\w+)_returns : \(γ : Env\) → Wired γ (\S+)\.Symbol\.code", returned)
+    return [(theorem, alias, *named[alias]) for theorem, alias in stated]
+
+
+def wired_of(cited, linked, all_of):
     lines = [
-        "-- There is an environment of the machine in which the name of each function means its code, with the code of all that it calls: that of",
-        "-- the look-up which lists them (`tie` of `prog.Linked`). So what is said of every environment that is wired for a function's code is not",
-        "-- said of nothing. Written by tools/linked.py.",
-        "-- Assumes nothing.",
-        "use mathlib.Core.Path.{refl}",
-        "use mathlib.Core.Bool.{false}",
-        "use mathlib.Core.List.{[]}",
-        "use mir.Syntax.{Symbol}",
-        "use prog.Linked.{Entry, in_entries, tie, tie-Follows, Has-Wired}",
-        "use prog.LinkedThreads.{HasT, no_threads}",
-        "use prog.Routine.{Env}",
-        "use prog.Wired.{Code, Wired}",
-    ]
-    for c in crates:
-        lines.append(f"use Rattle.{c}.proofs.Linked as {c}")
-    for _, alias, c, path in cited:
-        lines.append(f"use Rattle.{c}.proofs.{path}.Symbol as {alias}-symbol")
-    nested = "[]"
-    for c in crates:
-        nested = f"{c}.entries {nested}" if nested == "[]" else f"{c}.entries ({nested})"
-    lines += ["", "abbrev look : Symbol → Entry", f"look = in_entries ({nested})", "", f"pub {linked} : Env", f"{linked} = tie look", ""]
-    for c in crates:
-        lines += [f"in_{c} : {c}.Finds look", f"in_{c} =", "    record {"]
-        lines += [f"      {name_of(path)} = refl;" for path in orders[c]]
-        lines += ["    }", ""]
-    lines += [
         f"wired : (code : Code) → HasT look false code → Wired {linked} code",
         f"unfolding {linked}",
         "wired code has = Has-Wired look (tie look) (tie-Follows look) code (no_threads look code has)",
         "",
     ]
     for theorem, alias, c, path in cited:
-        given = "".join(f" in_{d}" for d in all_of[c]["needs"] + [c])
-        lines += [f"pub {theorem}_wired : Wired {linked} {alias}-symbol.code", f"{theorem}_wired = wired {alias}-symbol.code ({c}.{name_of(path)} look{given})", ""]
-    return "\n".join(lines).rstrip("\n") + "\n"
+        shown = f"{theorem}_wired = wired {alias}-symbol.code ({c}.{name_of(path)} look{given_of(c, all_of, 'found_')})"
+        lines += [f"pub {theorem}_wired : Wired {linked} {alias}-symbol.code", shown, ""]
+    return lines
+
+
+def text_of_environment(layers, own, orders, all_of, source, linked):
+    """The environment of the table, with the functions of the crate `own` behind it, and what `source` states is wired in it."""
+    cited, crates = cited_of(source), [*layers, *own]
+    more = f"({own[0]}.entries [])" if own else "[]"
+    lines = top_of(
+        [
+            "There is an environment of the machine in which the name of each function means its code, with the code of all that it calls: that of",
+            "the look-up which lists them (`tie` of `prog.Linked`). So what is said of every environment that is wired for a function's code is not",
+            "said of nothing. Written by tools/linked.py.",
+        ],
+        [
+            *(["mathlib.Core.Path.{refl}"] if own else []),
+            "mathlib.Core.Bool.{false}",
+            "mathlib.Core.List.{[]}",
+            "mir.Syntax.{Symbol}",
+            "prog.Linked.{Entry, in_entries, tie, tie-Follows, Has-Wired}",
+            "prog.LinkedThreads.{HasT, no_threads}",
+            "prog.Routine.{Env}",
+            "prog.Wired.{Code, Wired}",
+            "Rattle.promises.proofs.CodeTable as code_table",
+            *(f"Rattle.{c}.proofs.Linked as {c}" for c in crates),
+            *(f"Rattle.{c}.proofs.{path}.Symbol as {alias}-symbol" for _, alias, c, path in cited),
+        ],
+    )
+    lines += ["", "abbrev look : Symbol → Entry", f"look = in_entries (code_table.table {more})", "", f"pub {linked} : Env", f"{linked} = tie look", ""]
+    for c in layers:
+        lines += [f"found_{c} : {c}.Finds look", f"found_{c} = code_table.table_has_{c} {more}", ""]
+    for c in own:
+        lines += found_of(c, orders[c], ("found", "", ""), "look")
+    return "\n".join([*lines, *wired_of(cited, linked, all_of)]).rstrip("\n") + "\n"
+
+
+def write(crate, module, text):
+    """The module, listed in the crate's proofs/Lib.antt."""
+    with open(f"crates/{crate}/proofs/{module}.antt", "w", encoding="utf-8") as f:
+        f.write(text)
+    lib = f"crates/{crate}/proofs/Lib.antt"
+    lines = set(read(lib).split("\n")) if os.path.exists(lib) else set()
+    names = sorted((lines | {f"pub mod {module}"}) - {""}, key=lambda it: it.split()[-1])
+    with open(lib, "w", encoding="utf-8") as f:
+        f.write("\n".join(names) + "\n")
 
 
 def main(argv):
@@ -173,23 +219,16 @@ def main(argv):
     all_of, orders = {}, {}
     for crate in sorted(crates, key=below.index):
         of = functions(folder, crate)
-        text = text_of(crate, of, below, all_of)
-        with open(f"crates/{crate}/proofs/Linked.antt", "w", encoding="utf-8") as f:
-            f.write(text)
-        lib = f"crates/{crate}/proofs/Lib.antt"
-        lines = set(read(lib).split("\n")) if os.path.exists(lib) else set()
-        if "pub mod Linked" not in lines:
-            names = sorted((lines | {"pub mod Linked"}) - {""}, key=lambda it: it.split()[-1])
-            with open(lib, "w", encoding="utf-8") as f:
-                f.write("\n".join(names) + "\n")
+        all_of[crate] = needs_of(crate, of, below, all_of)
+        write(crate, "Linked", text_of(crate, of, all_of))
         orders[crate] = ordered(of, crate)
-        print(crate, len(of), all_of[crate]["needs"])
+        print(crate, len(of), all_of[crate])
     layers = [it for it in sorted(crates, key=below.index) if it != "suntimpani_c"]
-    with open("crates/promises/proofs/Linked.antt", "w", encoding="utf-8") as f:
-        f.write(text_of_all(layers, orders, all_of, "crates/promises/proofs/Returned.antt", "linked"))
+    write("promises", "CodeTable", text_of_table(layers, orders))
+    write("promises", "Linked", text_of_environment(layers, [], orders, all_of, "crates/promises/proofs/Returned.antt", "linked"))
     if "suntimpani_c" in crates:
-        with open("crates/suntimpani_c/proofs/Environment.antt", "w", encoding="utf-8") as f:
-            f.write(text_of_all(layers + ["suntimpani_c"], orders, all_of, "crates/suntimpani_c/proofs/Exported.antt", "linked_with_exports"))
+        source = "crates/suntimpani_c/proofs/Exported.antt"
+        write("suntimpani_c", "Environment", text_of_environment(layers, ["suntimpani_c"], orders, all_of, source, "linked_with_exports"))
 
 
 if __name__ == "__main__":

@@ -5,6 +5,7 @@ pub mod Broken
 pub mod BufferLaws
 pub mod CallerDetermined
 pub mod CauseLaws
+pub mod CodeTable
 pub mod ContractLaws
 pub mod Demand1Met
 pub mod Demand2Met

@@ -2,7 +2,6 @@
 -- the look-up which lists them (`tie` of `prog.Linked`). So what is said of every environment that is wired for a function's code is not
 -- said of nothing. Written by tools/linked.py.
 -- Assumes nothing.
-use mathlib.Core.Path.{refl}
 use mathlib.Core.Bool.{false}
 use mathlib.Core.List.{[]}
 use mir.Syntax.{Symbol}
@@ -10,6 +9,7 @@ use prog.Linked.{Entry, in_entries, tie, tie-Follows, Has-Wired}
 use prog.LinkedThreads.{HasT, no_threads}
 use prog.Routine.{Env}
 use prog.Wired.{Code, Wired}
+use Rattle.promises.proofs.CodeTable as code_table
 use Rattle.numbers.proofs.Linked as numbers
 use Rattle.section.proofs.Linked as section
 use Rattle.accept.proofs.Linked as accept
@@ -45,369 +45,110 @@ use Rattle.suntimpani.proofs.suntimpani_caller.Symbol as exported-caller-symbol
 use Rattle.suntimpani.proofs.suntimpani_trace.Symbol as exported-trace-symbol
 
 abbrev look : Symbol → Entry
-look = in_entries (suntimpani.entries (explain.entries (trace.entries (caller.entries (ask.entries (lookup.entries (listing.entries (accept.entries (section.entries (numbers.entries []))))))))))
+look = in_entries (code_table.table [])
 
 pub linked : Env
 linked = tie look
 
-in_numbers : numbers.Finds look
-in_numbers =
-    record {
-      offset_shift_of = refl;
-      address_address_of = refl;
-      address_window_fits = refl;
-      field_digit_at = refl;
-      field_in8 = refl;
-      field_u64_at = refl;
-      address_word_at = refl;
-      field_in2 = refl;
-      field_u16_at = refl;
-      field_in4 = refl;
-      field_u32_at = refl;
-      field_u8_at = refl;
-      field_field_at = refl;
-      field_width_of = refl;
-      field_number_at = refl;
-      held_rank_of = refl;
-      held_held_start = refl;
-      held_near_of = refl;
-      held_start_at = refl;
-      offset_full_of = refl;
-      offset_offset_of = refl;
-      offset_offset_at = refl;
-    }
+found_numbers : numbers.Finds look
+found_numbers = code_table.table_has_numbers []
 
-in_section : section.Finds look
-in_section =
-    record {
-      header_bit_of = refl;
-      entry_does_repeat = refl;
-      entry_entry_at = refl;
-      entry_position_at = refl;
-      entry_exact_start = refl;
-      entry_start_of = refl;
-      entry_type_of = refl;
-      header_fixed_at = refl;
-      header_marks_at = refl;
-      header_magic_in = refl;
-      header_order_at = refl;
-      header_sizes_at = refl;
-      shape_abi_of = refl;
-      header_layout_at = refl;
-      row_base_of = refl;
-      row_count_of = refl;
-      row_info_at = refl;
-      row_is_signed = refl;
-      row_offset_in = refl;
-      row_offset_size_of = refl;
-      row_offsets_length = refl;
-      row_place_in = refl;
-      row_ra_in = refl;
-      row_row_at = refl;
-      row_row_length = refl;
-      row_row_start_at = refl;
-      shape_aarch64 = refl;
-      shape_amd64 = refl;
-      shape_shape_of = refl;
-    }
+found_section : section.Finds look
+found_section = code_table.table_has_section []
 
-in_accept : accept.Finds look
-in_accept =
-    record {
-      entry_check_wrong_entry_info = refl;
-      entry_check_wrong_repeat = refl;
-      row_check_wrong_row_info = refl;
-      row_check_check_row = refl;
-      row_check_walk_rows = refl;
-      row_check_check_rows = refl;
-      entry_check_check_entry = refl;
-      header_check_same_order = refl;
-      header_check_wrong_abi = refl;
-      header_check_same_offset = refl;
-      header_check_wrong_fixed = refl;
-      header_check_wrong_sizes = refl;
-      header_check_check_parts = refl;
-      header_check_has_magic = refl;
-      header_check_check_header = refl;
-      section_check_check_sum = refl;
-      section_check_starts_below = refl;
-      section_check_check_turn = refl;
-      section_check_check_each = refl;
-      section_check_check_entries = refl;
-      section_check_check = refl;
-    }
+found_accept : accept.Finds look
+found_accept = code_table.table_has_accept []
 
-in_listing : listing.Finds look
-in_listing =
-    record {
-      function_kind_of = refl;
-      function_facts_at = refl;
-      function_described_in = refl;
-      function_function_at = refl;
-      rows_nowhere = refl;
-      lines_cursor_over = refl;
-      lines_cursor_at = refl;
-      lines_cursor_of = refl;
-      lines_has_entry = refl;
-      lines_line_at = refl;
-      rows_ended_at = refl;
-      lines_stopped_at = refl;
-      lines_entry_turn = refl;
-      lines_function_turn = refl;
-      rows_decoded_at = refl;
-      rows_has_fixed = refl;
-      rows_names_offsets = refl;
-      rows_can_read = refl;
-      rows_has_row = refl;
-      rows_past_row = refl;
-      rows_row_turn = refl;
-      lines_next_line = refl;
-      reader_next_row = refl;
-      reader_place_in = refl;
-      reader_place_of = refl;
-      reader_reader_of = refl;
-    }
+found_listing : listing.Finds look
+found_listing = code_table.table_has_listing []
 
-in_lookup : lookup.Finds look
-in_lookup =
-    record {
-      look_left_over = refl;
-      look_block_offset = refl;
-      rows_no_offsets = refl;
-      rows_starts_by = refl;
-      rows_told_at = refl;
-      rows_pass_rows = refl;
-      rows_stop_at = refl;
-      rows_scan_rows = refl;
-      table_entry_in = refl;
-      look_row_for = refl;
-      look_with_row = refl;
-      look_with_cover = refl;
-      search_bound_of = refl;
-      search_position_at = refl;
-      search_rank_at = refl;
-      search_halve = refl;
-      search_past_start = refl;
-      search_is_within = refl;
-      search_size_at = refl;
-      search_covers_at = refl;
-      search_landed_on = refl;
-      search_next_covering = refl;
-      search_scan = refl;
-      search_find = refl;
-      look_look = refl;
-      look_lookup = refl;
-      search_land = refl;
-      search_past_within = refl;
-      search_past_in = refl;
-    }
+found_lookup : lookup.Finds look
+found_lookup = code_table.table_has_lookup []
 
-in_ask : ask.Finds look
-in_ask =
-    record {
-      land_with_sought = refl;
-      rows_is_wrong = refl;
-      rows_sought_at = refl;
-      rows_stop_after = refl;
-      rows_walk_rows = refl;
-      rows_walk_typed = refl;
-      rows_seek_row = refl;
-      land_in_function = refl;
-      land_where_landed = refl;
-      land_ask_in = refl;
-      land_ask = refl;
-    }
+found_ask : ask.Finds look
+found_ask = code_table.table_has_ask []
 
-in_caller : caller.Finds look
-in_caller =
-    record {
-      place_is_lost = refl;
-      place_spot_at = refl;
-      place_spot_of = refl;
-      place_value_at = refl;
-      place_values_at = refl;
-      registers_caller_sp = refl;
-      signature_clear = refl;
-      registers_Registers_with_values = refl;
-      registers_Registers_from_spots = refl;
-      registers_is_low = refl;
-      signature_is_signed = refl;
-      signature_mask_of = refl;
-      registers_Registers_from_cfa = refl;
-      registers_base_value = refl;
-      registers_cfa_of = refl;
-      signature_is_maskless = refl;
-      registers_Registers_from_row = refl;
-      registers_Registers_from_outcome = refl;
-      registers_just_before = refl;
-      registers_asked_of = refl;
-      registers_Registers_step_checked = refl;
-      registers_Registers_step = refl;
-      registers_cfa_of_sp = refl;
-    }
+found_caller : caller.Finds look
+found_caller = code_table.table_has_caller []
 
-in_trace : trace.Finds look
-in_trace =
-    record {
-      answer_frame_of = refl;
-      answer_number_of = refl;
-      answer_write_frame = refl;
-      walk_in_force = refl;
-      walk_door_fault = refl;
-      walk_next_from = refl;
-      walk_walk = refl;
-      walk_with_mark = refl;
-      walk_trace = refl;
-    }
+found_trace : trace.Finds look
+found_trace = code_table.table_has_trace []
 
-in_explain : explain.Finds look
-in_explain =
-    record {
-      coverers_covers_pc = refl;
-      coverers_no_coverers = refl;
-      coverers_with_index = refl;
-      coverers_with_if = refl;
-      coverers_all_covering = refl;
-      looked_alone = refl;
-      looked_row_place = refl;
-      looked_start_in = refl;
-      looked_by_scan = refl;
-      looked_in_function = refl;
-      nearby_better_of = refl;
-      nearby_side_key = refl;
-      nearby_key_of = refl;
-      nearby_key_at = refl;
-      nearby_best_in = refl;
-      nearby_held_of = refl;
-      nearby_lowered = refl;
-      nearby_nearest_of = refl;
-      nearby_nearest_at = refl;
-      looked_no_function = refl;
-      looked_by_cover = refl;
-      looked_explain_look = refl;
-      looked_explain_lookup = refl;
-      stepped_fetched_at = refl;
-      stepped_fetch = refl;
-      stepped_outside = refl;
-      stepped_caller_of = refl;
-      stepped_with_ra = refl;
-      stepped_from_words = refl;
-      stepped_from_high = refl;
-      stepped_from_cfa = refl;
-      stepped_explain_row = refl;
-      stepped_by_looked = refl;
-      stepped_unlooked = refl;
-      stepped_explain_checked = refl;
-      stepped_explain_step = refl;
-      sums_lowered_by = refl;
-      sums_raised_by = refl;
-      sums_sum_of = refl;
-    }
+found_explain : explain.Finds look
+found_explain = code_table.table_has_explain []
 
-in_suntimpani : suntimpani.Finds look
-in_suntimpani =
-    record {
-      flat_empty_row = refl;
-      flat_base_number = refl;
-      flat_flag_of = refl;
-      flat_place_kind = refl;
-      flat_place_offset = refl;
-      flat_flat_row = refl;
-      asks_flat_asked = refl;
-      flat_flat_answer = refl;
-      flat_flat_verdict = refl;
-      functions_kind_number = refl;
-      functions_repeat_of = refl;
-      functions_flat_facts = refl;
-      functions_no_function = refl;
-      functions_flat_function = refl;
-      rows_abi_named = refl;
-      rows_abi_number = refl;
-      rows_flat_place = refl;
-      rows_flat_next = refl;
-      rows_flat_turn = refl;
-      rows_place_read = refl;
-      suntimpani_ask = refl;
-      walks_flat_step = refl;
-      suntimpani_caller = refl;
-      suntimpani_check = refl;
-      suntimpani_function_at = refl;
-      suntimpani_lookup = refl;
-      suntimpani_next_row = refl;
-      suntimpani_rows_of = refl;
-      walks_flat_traced = refl;
-      suntimpani_trace = refl;
-    }
+found_suntimpani : suntimpani.Finds look
+found_suntimpani = code_table.table_has_suntimpani []
 
 wired : (code : Code) → HasT look false code → Wired linked code
 unfolding linked
 wired code has = Has-Wired look (tie look) (tie-Follows look) code (no_threads look code has)
 
 pub check_wired : Wired linked check-symbol.code
-check_wired = wired check-symbol.code (accept.section_check_check look in_numbers in_section in_accept)
+check_wired = wired check-symbol.code (accept.section_check_check look found_numbers found_section found_accept)
 
 pub function_at_wired : Wired linked function_at-symbol.code
-function_at_wired = wired function_at-symbol.code (listing.function_function_at look in_numbers in_section in_accept in_listing)
+function_at_wired = wired function_at-symbol.code (listing.function_function_at look found_numbers found_section found_accept found_listing)
 
 pub lookup_wired : Wired linked lookup-symbol.code
-lookup_wired = wired lookup-symbol.code (lookup.look_lookup look in_numbers in_section in_accept in_lookup)
+lookup_wired = wired lookup-symbol.code (lookup.look_lookup look found_numbers found_section found_accept found_lookup)
 
 pub ask_wired : Wired linked ask-symbol.code
-ask_wired = wired ask-symbol.code (ask.land_ask look in_numbers in_section in_accept in_lookup in_ask)
+ask_wired = wired ask-symbol.code (ask.land_ask look found_numbers found_section found_accept found_lookup found_ask)
 
 pub step_wired : Wired linked step-symbol.code
-step_wired = wired step-symbol.code (caller.registers_Registers_step look in_numbers in_section in_accept in_lookup in_caller)
+step_wired = wired step-symbol.code (caller.registers_Registers_step look found_numbers found_section found_accept found_lookup found_caller)
 
 pub trace_wired : Wired linked trace-symbol.code
-trace_wired = wired trace-symbol.code (trace.walk_trace look in_numbers in_section in_accept in_lookup in_caller in_trace)
+trace_wired = wired trace-symbol.code (trace.walk_trace look found_numbers found_section found_accept found_lookup found_caller found_trace)
 
 pub explain_lookup_wired : Wired linked explain_lookup-symbol.code
-explain_lookup_wired = wired explain_lookup-symbol.code (explain.looked_explain_lookup look in_numbers in_section in_accept in_lookup in_caller in_explain)
+explain_lookup_wired = wired explain_lookup-symbol.code (explain.looked_explain_lookup look found_numbers found_section found_accept found_lookup found_caller found_explain)
 
 pub explain_step_wired : Wired linked explain_step-symbol.code
-explain_step_wired = wired explain_step-symbol.code (explain.stepped_explain_step look in_numbers in_section in_accept in_lookup in_caller in_explain)
+explain_step_wired = wired explain_step-symbol.code (explain.stepped_explain_step look found_numbers found_section found_accept found_lookup found_caller found_explain)
 
 pub place_of_wired : Wired linked place_of-symbol.code
-place_of_wired = wired place_of-symbol.code (listing.reader_place_of look in_numbers in_section in_accept in_listing)
+place_of_wired = wired place_of-symbol.code (listing.reader_place_of look found_numbers found_section found_accept found_listing)
 
 pub row_turn_wired : Wired linked row_turn-symbol.code
-row_turn_wired = wired row_turn-symbol.code (listing.rows_row_turn look in_numbers in_section in_accept in_listing)
+row_turn_wired = wired row_turn-symbol.code (listing.rows_row_turn look found_numbers found_section found_accept found_listing)
 
 pub cursor_of_wired : Wired linked cursor_of-symbol.code
-cursor_of_wired = wired cursor_of-symbol.code (listing.lines_cursor_of look in_numbers in_section in_accept in_listing)
+cursor_of_wired = wired cursor_of-symbol.code (listing.lines_cursor_of look found_numbers found_section found_accept found_listing)
 
 pub cursor_at_wired : Wired linked cursor_at-symbol.code
-cursor_at_wired = wired cursor_at-symbol.code (listing.lines_cursor_at look in_numbers in_section in_accept in_listing)
+cursor_at_wired = wired cursor_at-symbol.code (listing.lines_cursor_at look found_numbers found_section found_accept found_listing)
 
 pub next_line_wired : Wired linked next_line-symbol.code
-next_line_wired = wired next_line-symbol.code (listing.lines_next_line look in_numbers in_section in_accept in_listing)
+next_line_wired = wired next_line-symbol.code (listing.lines_next_line look found_numbers found_section found_accept found_listing)
 
 pub reader_of_wired : Wired linked reader_of-symbol.code
-reader_of_wired = wired reader_of-symbol.code (listing.reader_reader_of look in_numbers in_section in_accept in_listing)
+reader_of_wired = wired reader_of-symbol.code (listing.reader_reader_of look found_numbers found_section found_accept found_listing)
 
 pub next_row_wired : Wired linked next_row-symbol.code
-next_row_wired = wired next_row-symbol.code (listing.reader_next_row look in_numbers in_section in_accept in_listing)
+next_row_wired = wired next_row-symbol.code (listing.reader_next_row look found_numbers found_section found_accept found_listing)
 
 pub exported_check_wired : Wired linked exported-check-symbol.code
-exported_check_wired = wired exported-check-symbol.code (suntimpani.suntimpani_check look in_numbers in_section in_accept in_listing in_lookup in_ask in_caller in_trace in_suntimpani)
+exported_check_wired = wired exported-check-symbol.code (suntimpani.suntimpani_check look found_numbers found_section found_accept found_listing found_lookup found_ask found_caller found_trace found_suntimpani)
 
 pub exported_function_at_wired : Wired linked exported-function_at-symbol.code
-exported_function_at_wired = wired exported-function_at-symbol.code (suntimpani.suntimpani_function_at look in_numbers in_section in_accept in_listing in_lookup in_ask in_caller in_trace in_suntimpani)
+exported_function_at_wired = wired exported-function_at-symbol.code (suntimpani.suntimpani_function_at look found_numbers found_section found_accept found_listing found_lookup found_ask found_caller found_trace found_suntimpani)
 
 pub exported_rows_of_wired : Wired linked exported-rows_of-symbol.code
-exported_rows_of_wired = wired exported-rows_of-symbol.code (suntimpani.suntimpani_rows_of look in_numbers in_section in_accept in_listing in_lookup in_ask in_caller in_trace in_suntimpani)
+exported_rows_of_wired = wired exported-rows_of-symbol.code (suntimpani.suntimpani_rows_of look found_numbers found_section found_accept found_listing found_lookup found_ask found_caller found_trace found_suntimpani)
 
 pub exported_next_row_wired : Wired linked exported-next_row-symbol.code
-exported_next_row_wired = wired exported-next_row-symbol.code (suntimpani.suntimpani_next_row look in_numbers in_section in_accept in_listing in_lookup in_ask in_caller in_trace in_suntimpani)
+exported_next_row_wired = wired exported-next_row-symbol.code (suntimpani.suntimpani_next_row look found_numbers found_section found_accept found_listing found_lookup found_ask found_caller found_trace found_suntimpani)
 
 pub exported_lookup_wired : Wired linked exported-lookup-symbol.code
-exported_lookup_wired = wired exported-lookup-symbol.code (suntimpani.suntimpani_lookup look in_numbers in_section in_accept in_listing in_lookup in_ask in_caller in_trace in_suntimpani)
+exported_lookup_wired = wired exported-lookup-symbol.code (suntimpani.suntimpani_lookup look found_numbers found_section found_accept found_listing found_lookup found_ask found_caller found_trace found_suntimpani)
 
 pub exported_ask_wired : Wired linked exported-ask-symbol.code
-exported_ask_wired = wired exported-ask-symbol.code (suntimpani.suntimpani_ask look in_numbers in_section in_accept in_listing in_lookup in_ask in_caller in_trace in_suntimpani)
+exported_ask_wired = wired exported-ask-symbol.code (suntimpani.suntimpani_ask look found_numbers found_section found_accept found_listing found_lookup found_ask found_caller found_trace found_suntimpani)
 
 pub exported_caller_wired : Wired linked exported-caller-symbol.code
-exported_caller_wired = wired exported-caller-symbol.code (suntimpani.suntimpani_caller look in_numbers in_section in_accept in_listing in_lookup in_ask in_caller in_trace in_suntimpani)
+exported_caller_wired = wired exported-caller-symbol.code (suntimpani.suntimpani_caller look found_numbers found_section found_accept found_listing found_lookup found_ask found_caller found_trace found_suntimpani)
 
 pub exported_trace_wired : Wired linked exported-trace-symbol.code
-exported_trace_wired = wired exported-trace-symbol.code (suntimpani.suntimpani_trace look in_numbers in_section in_accept in_listing in_lookup in_ask in_caller in_trace in_suntimpani)
+exported_trace_wired = wired exported-trace-symbol.code (suntimpani.suntimpani_trace look found_numbers found_section found_accept found_listing found_lookup found_ask found_caller found_trace found_suntimpani)

@@ -134,6 +134,30 @@ sframe trace FILE ADDRESS STACK STACK_ADDRESS PC SP FP LR LIMIT [MASK]
     }
 }
 
+fn say_use_of_lookup(console: &Console, command: Command) {
+    match command {
+        Command::Lookup => {
+            say(
+                console,
+                b"\
+sframe lookup FILE ADDRESS PC...
+    the function and the row for each PC
+",
+            );
+        }
+        Command::Ask => {
+            say(
+                console,
+                b"\
+sframe ask FILE ADDRESS PC...
+    the same without a check of the whole section: only what the answer needs is read
+",
+            );
+        }
+        _ => say_use_of_walk(console, command),
+    }
+}
+
 // How a command is typed, and what it is for.
 fn say_use(console: &Console, command: Command) {
     match command {
@@ -155,25 +179,7 @@ sframe list FILE [INDEX]
 ",
             );
         }
-        Command::Lookup => {
-            say(
-                console,
-                b"\
-sframe lookup FILE ADDRESS PC...
-    the function and the row for each PC
-",
-            );
-        }
-        Command::Ask => {
-            say(
-                console,
-                b"\
-sframe ask FILE ADDRESS PC...
-    the same without a check of the whole section: only what the answer needs is read
-",
-            );
-        }
-        _ => say_use_of_walk(console, command),
+        _ => say_use_of_lookup(console, command),
     }
 }
 
