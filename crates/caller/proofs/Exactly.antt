@@ -8,8 +8,6 @@ use mathlib.Core.Logic.{◌⊎◌, inl, inr, ◌↔◌, ⊎_elim}
 use Prim.Native.Nat.{ℕ}
 use native.Mathlib.Omega.{arith}
 use lib.IntN.{ℤ}
-use Rattle.numbers.specs.declared.address.Word.{Word}
-use Rattle.numbers.specs.declared.address.Word.TheVariants as word
 use Rattle.section.specs.Header.{layout_of}
 use Rattle.section.specs.Meaning.{shape_of}
 use Rattle.section.specs.Row.{count_of}
@@ -338,15 +336,15 @@ through_look s t address other same found = rw same (ap (step_of (shape_of t)) (
 -- ---- "a needed word (RA first)": both words refuse with 28, so the order cannot be seen
 
 -- FP's word first
-pub both_fp_first : Word → Word → Values
-both_fp_first ra word.Outside = NoFp
-both_fp_first word.Outside (word.Is fp) = NoRa
-both_fp_first (word.Is ra) (word.Is fp) = Both ra fp
+pub both_fp_first : Option ℕ → Option ℕ → Values
+both_fp_first ra None = NoFp
+both_fp_first None (Some fp) = NoRa
+both_fp_first (Some ra) (Some fp) = Both ra fp
 
-pub words_order_unseen : (registers : Registers) (mask cfa : ℕ) (ra fp : Word)
+pub words_order_unseen : (registers : Registers) (mask cfa : ℕ) (ra fp : Option ℕ)
     → with_values registers mask cfa (both_fp_first ra fp) ≡ with_values registers mask cfa (both_of ra fp)
 unfolding with_values both_of both_fp_first
-words_order_unseen registers mask cfa word.Outside word.Outside = refl
-words_order_unseen registers mask cfa (word.Is ra) word.Outside = refl
-words_order_unseen registers mask cfa word.Outside (word.Is fp) = refl
-words_order_unseen registers mask cfa (word.Is ra) (word.Is fp) = refl
+words_order_unseen registers mask cfa None None = refl
+words_order_unseen registers mask cfa (Some ra) None = refl
+words_order_unseen registers mask cfa None (Some fp) = refl
+words_order_unseen registers mask cfa (Some ra) (Some fp) = refl

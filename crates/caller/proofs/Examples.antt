@@ -11,10 +11,6 @@ use lib.IntN.{ℤ, pos, negsuc}
 use lib.ListN.{length, take, replicate, set}
 use Rattle.numbers.specs.Field.{field_of}
 use Rattle.numbers.specs.Computed.Address.{in_memory, wholly}
-use Rattle.numbers.specs.declared.address.Address.{Address}
-use Rattle.numbers.specs.declared.address.Address.TheVariants as address
-use Rattle.numbers.specs.declared.address.Word.{Word}
-use Rattle.numbers.specs.declared.address.Word.TheVariants as word
 use Rattle.numbers.specs.declared.field.Order.{Order}
 use Rattle.numbers.specs.declared.field.Order.TheVariants.{Little, Big}
 use Rattle.section.specs.SectionS.{section_s, overlapping_s, unsorted_s}
@@ -221,9 +217,9 @@ below_differs e = let z : ◌≡◌ {A = ℕ} 0 26 = ap step_number e in omega a
 
 -- ---- 28 for FP's word tried before 27; no section has a row that shows it, since FP is saved only where RA is (`fp_with_ra`)
 
-or_outside : Registers → Word → Step → Step
-or_outside registers word.Outside next = Refused registers 28
-or_outside registers (word.Is fp) next = next
+or_outside : Registers → Option ℕ → Step → Step
+or_outside registers None next = Refused registers 28
+or_outside registers (Some fp) next = next
 
 fp_before : Shape → List ℕ → Process → Registers → ℕ → ℕ → Spot → Spot → Step
 fp_before shape stack process registers mask cfa ra fp =
@@ -239,7 +235,7 @@ early_differs order e = let z : ◌≡◌ {A = ℕ} 28 27 = ap step_number e in 
 
 -- ---- CFA wrapped to 64 bits
 
-row_by : (ℤ → Address) → Shape → List ℕ → Process → Registers → Row → Step
+row_by : (ℤ → Option ℕ) → Shape → List ℕ → Process → Registers → Row → Step
 row_by memory shape stack process registers row =
     elim (is_maskless shape row process) [
       | true ↦ Refused registers 24
@@ -251,9 +247,9 @@ our_25 : (shape : Shape) (stack : List ℕ) (process : Process) (registers : Reg
 unfolding from_row unless_maskless row_by
 our_25 shape stack process registers row = refl
 
-wrapped : ℤ → Address
-wrapped (pos n) = address.At (n % 2 ^ 64)
-wrapped (negsuc n) = address.At (2 ^ 64 - 1 - n % 2 ^ 64)
+wrapped : ℤ → Option ℕ
+wrapped (pos n) = Some (n % 2 ^ 64)
+wrapped (negsuc n) = Some (2 ^ 64 - 1 - n % 2 ^ 64)
 
 -- FP is 2^64 - 8, so that FP + 16, wrapped, is 8; the window lies at 0
 high : Registers
@@ -272,11 +268,11 @@ wrapped_differs e = let z : ◌≡◌ {A = ℕ} 0 25 = ap step_number e in omega
 
 -- ---- a word that ends one byte past the window
 
-value_by : (List ℕ → ℕ → ℕ → Bool) → List ℕ → ℕ → Order → ℕ → Spot → Word
-value_by inside stack lies order register Kept = word.Is register
+value_by : (List ℕ → ℕ → ℕ → Bool) → List ℕ → ℕ → Order → ℕ → Spot → Option ℕ
+value_by inside stack lies order register Kept = Some register
 value_by inside stack lies order register (Saved at) =
-    elim (inside stack lies at) [ true ↦ word.Is (field_of stack (at - lies) 8 order) | false ↦ word.Outside ]
-value_by inside stack lies order register Beyond = word.Outside
+    elim (inside stack lies at) [ true ↦ Some (field_of stack (at - lies) 8 order) | false ↦ None ]
+value_by inside stack lies order register Beyond = None
 
 our_28 : (stack : List ℕ) (lies : ℕ) (order : Order) (register : ℕ) (spot : Spot)
     → value_of stack lies order register spot ≡ value_by wholly stack lies order register spot
@@ -428,7 +424,7 @@ signed_by mask handed refused shape stack process registers row cfa =
     ]
 
 our_24 : (shape : Shape) (stack : List ℕ) (process : Process) (registers : Registers) (row : Row) (cfa : ℕ)
-    → in_memory (cfa_of registers row) ≡ address.At cfa
+    → in_memory (cfa_of registers row) ≡ Some cfa
     → from_row shape stack process registers row ≡ signed_by mask_of with_values is_maskless shape stack process registers row cfa
 unfolding from_row from_cfa from_spots unless_maskless with_cfa signed_by
 our_24 shape stack process registers row cfa is = rw is

@@ -8,8 +8,6 @@ use Prim.Native.Nat.{ℕ, ◌-◌, ◌≤◌}
 use native.Mathlib.Omega.{arith}
 use lib.ListN.{get_or}
 use Rattle.numbers.specs.Computed.Address.{in_memory}
-use Rattle.numbers.specs.declared.address.Address.{Address}
-use Rattle.numbers.specs.declared.address.Address.TheVariants as address
 use Rattle.section.specs.declared.row.Row.{Row}
 use Rattle.section.specs.declared.shape.Shape.{Shape}
 use Rattle.accept.specs.Given.{number_of_rule}
@@ -168,10 +166,10 @@ module _ (shape : Shape) (stack : List ℕ) (process : Process) (registers : Reg
       (λ e. rw (e, unless_low) tt)
       (λ e. rw (e, unless_low) (spots-handed (mask_of shape row process) cfa (spot_of cfa row.ra) (spot_of cfa row.fp)))
 
-  memory-handed : (row : Row) (a : Address) → HandedOn registers (with_cfa registers a (from_cfa shape stack process registers row))
+  memory-handed : (row : Row) (a : Option ℕ) → HandedOn registers (with_cfa registers a (from_cfa shape stack process registers row))
   unfolding with_cfa
-  memory-handed row address.Outside = tt
-  memory-handed row (address.At cfa) = cfa-handed row cfa
+  memory-handed row None = tt
+  memory-handed row (Some cfa) = cfa-handed row cfa
 
   row-handed : (row : Row) → HandedOn registers (from_row shape stack process registers row)
   unfolding from_row unless_maskless

@@ -8,7 +8,6 @@ use mathlib.Core.Path.{◌≡◌, refl, ◌∙◌, ap}
 use Prim.Native.Nat.{ℕ, zero, suc, ◌-◌, ◌<◌, ◌≤◌}
 use lib.Dec.{eqb, ltb, leb}
 use Rattle.numbers.specs.Computed.Address.{in_memory, address_of}
-use Rattle.numbers.specs.declared.address.Address.{Address}
 use Rattle.section.specs.declared.row.Row.{Row}
 use Rattle.lookup.proofs.CoveringLaws.{by_value}
 use Rattle.caller.specs.Frame.{has_mark, just_before, asked_of, base_value, cfa_of}
@@ -73,7 +72,7 @@ module _ (registers : Registers) where
   asked_marked set = rw (ne_eqb _ _ set, asked_of)
 
 -- CFA, by the value of the base and the sum
-pub cfa_is : (registers : Registers) (row : Row) {base : ℕ} {sum : Address} → base ≡ base_value registers row.base
+pub cfa_is : (registers : Registers) (row : Row) {base : ℕ} {sum : Option ℕ} → base ≡ base_value registers row.base
     → sum ≡ address_of base row.cfa.by → sum ≡ in_memory (cfa_of registers row)
 unfolding cfa_of address_of
 cfa_is registers row value sum = sum ∙ ap (λ b. address_of b row.cfa.by) value

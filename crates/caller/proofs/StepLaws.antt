@@ -8,8 +8,6 @@ use mathlib.Core.Logic.{inl, inr, ◌↔◌, ⊎_elim}
 use Prim.Native.Nat.{ℕ}
 use native.Mathlib.Omega.{arith}
 use Rattle.numbers.specs.Computed.Address.{in_memory}
-use Rattle.numbers.specs.declared.address.Word.{Word}
-use Rattle.numbers.specs.declared.address.Word.TheVariants as word
 use Rattle.section.specs.Meaning.{shape_of}
 use Rattle.section.specs.declared.row.Row.{Row}
 use Rattle.accept.specs.Given.{number_of_rule}
@@ -42,10 +40,10 @@ pub by_shown : {test : Bool} {P X : Type 0} → Shows test P → (P → X) → (
 by_shown {test} d good bad = by_value test (λ e. good (d.holds e)) (λ e. bad (d.broken e))
 
 -- FP's word is outside, whatever RA's is
-fp_refused : (registers : Registers) (mask cfa : ℕ) (ra : Word) → with_values registers mask cfa (both_of ra word.Outside) ≡ Refused registers 28
+fp_refused : (registers : Registers) (mask cfa : ℕ) (ra : Option ℕ) → with_values registers mask cfa (both_of ra None) ≡ Refused registers 28
 unfolding both_of with_values
-fp_refused registers mask cfa word.Outside = refl
-fp_refused registers mask cfa (word.Is ra) = refl
+fp_refused registers mask cfa None = refl
+fp_refused registers mask cfa (Some ra) = refl
 
 -- ---- the step where the checks so far pass, and what each refusal makes of it
 

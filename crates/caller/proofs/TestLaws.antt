@@ -12,9 +12,6 @@ use lib.ListN.{length}
 use lib.Signed.{◌≤ℤ◌, ◌<ℤ◌, le_z_yes, lt_z_yes}
 use borrow.Author.Tests.{ltb-true, ltb-false, lt-ltb, le-ltb, le-leb}
 use Rattle.numbers.specs.Computed.Address.{in_memory, address_of, window_fits, wholly, word_of}
-use Rattle.numbers.specs.declared.address.Address.{Address}
-use Rattle.numbers.specs.declared.address.Address.TheVariants as address
-use Rattle.numbers.specs.declared.address.Word.TheVariants as word
 use Rattle.numbers.specs.declared.field.Order.{Order}
 use Rattle.numbers.proofs.AddressLaws.{word_inside}
 use Rattle.section.specs.declared.row.Place.{Place}
@@ -67,10 +64,10 @@ unfolding is_low
 low_shows registers cfa = either (below _ _) (both (equal _ _) (mark_shows registers))
 
 -- 27: only a register can be lost
-saved_kept : (registers : Registers) (a : Address) → is_lost registers (spot_at a) ≡ false
+saved_kept : (registers : Registers) (a : Option ℕ) → is_lost registers (spot_at a) ≡ false
 unfolding spot_at is_lost
-saved_kept registers (address.At at) = refl
-saved_kept registers address.Outside = refl
+saved_kept registers (Some at) = refl
+saved_kept registers None = refl
 
 pub lost_shows : (registers : Registers) (cfa : ℕ) (place : Place)
     → Shows (is_lost registers (spot_of cfa place)) ((place ≡ Register) × NoMark registers)
@@ -84,11 +81,11 @@ lost_shows registers cfa (AtOffset offset) =
 
 -- ---- a whole number as an address
 
-pub in_memory_lem : (z : ℤ) (n : ℕ) → z ≡ pos n → n < 2 ^ 64 → in_memory z ≡ address.At n
+pub in_memory_lem : (z : ℤ) (n : ℕ) → z ≡ pos n → n < 2 ^ 64 → in_memory z ≡ Some n
 unfolding in_memory
 in_memory_lem z n e lt = rw e (rw (lt-ltb n (2 ^ 64) lt, in_memory))
 
-pub out_of_memory : (z : ℤ) → (z <ℤ pos 0) ⊎ (pos (2 ^ 64) ≤ℤ z) → in_memory z ≡ address.Outside
+pub out_of_memory : (z : ℤ) → (z <ℤ pos 0) ⊎ (pos (2 ^ 64) ≤ℤ z) → in_memory z ≡ None
 unfolding in_memory
 out_of_memory (pos n) (inl h) = let lt : n < 0 = ltb→lt n 0 h.lt in absurd (omega arith)
 out_of_memory (pos n) (inr h) = rw (le-ltb n (2 ^ 64) (leb→le (2 ^ 64) n h.le), in_memory)
@@ -114,18 +111,18 @@ module _ (stack : List ℕ) (lies : ℕ) where
   module _ (order : Order) where
     -- what stands at the address that z is, or beyond
     word-given : (register : ℕ) (z : ℤ) (value : ℕ) → lies + length stack ≤ 2 ^ 64 → WordIs stack lies order z value
-        → value_of stack lies order register (spot_at (in_memory z)) ≡ word.Is value
+        → value_of stack lies order register (spot_at (in_memory z)) ≡ Some value
     unfolding spot_at value_of
     word-given register z value fits h =
         ap (λ a. value_of stack lies order register (spot_at a)) (in_memory_lem z h.at h.at_is (omega arith))
         ∙ sym (word_inside stack lies h.at order h.from h.to)
-        ∙ ap word.Is (sym h.value_is)
+        ∙ ap Some (sym h.value_is)
 
     wholly-shows : (at : ℕ) → Shows (wholly stack lies at) ((lies ≤ at) × (at + 8 ≤ lies + length stack))
     unfolding wholly
     wholly-shows at = both (at_most _ _) (at_most _ _)
 
-    outside-given : (register : ℕ) (z : ℤ) → ¬ Inside stack lies z → value_of stack lies order register (spot_at (in_memory z)) ≡ word.Outside
+    outside-given : (register : ℕ) (z : ℤ) → ¬ Inside stack lies z → value_of stack lies order register (spot_at (in_memory z)) ≡ None
     unfolding in_memory spot_at value_of word_of
     outside-given register (negsuc n) out = refl
     outside-given register (pos n) out =
@@ -144,13 +141,13 @@ module _ (stack : List ℕ) (lies : ℕ) where
     -- ---- the value of a saved place
 
     pub value_given : (cfa register : ℕ) (place : Place) (value : ℕ) → lies + length stack ≤ 2 ^ 64
-        → ValueIs stack lies order cfa register place value → value_of stack lies order register (spot_of cfa place) ≡ word.Is value
+        → ValueIs stack lies order cfa register place value → value_of stack lies order register (spot_of cfa place) ≡ Some value
     unfolding spot_of value_of address_of
-    value_given cfa register Register value fits h = ap word.Is (sym h)
+    value_given cfa register Register value fits h = ap Some (sym h)
     value_given cfa register (AtOffset offset) value fits h = word-given register (pos cfa +ℤ offset.by) value fits h
 
     pub no_value : (cfa register : ℕ) (place : Place) → Outside stack lies cfa place
-        → value_of stack lies order register (spot_of cfa place) ≡ word.Outside
+        → value_of stack lies order register (spot_of cfa place) ≡ None
     unfolding spot_of address_of
     no_value cfa register Register h = absurd h
     no_value cfa register (AtOffset offset) h = outside-given register (pos cfa +ℤ offset.by) h

@@ -1,40 +1,41 @@
 -- A base plus an offset, by the way that the offset goes; and a word by the tests that the code makes.
 -- Assumes nothing.
 use mathlib.Core.Path.{◌≡◌, sym}
-use mathlib.Core.Bool.{true, false}
+use mathlib.Core.Bool.{true}
 use mathlib.Core.List.{List}
 use Prim.Native.Nat.{ℕ, suc, ◌+◌, ◌-◌, ◌^◌, ◌≤◌, ◌<◌}
 use native.Mathlib.Omega.{arith}
 use lib.ListN.{length}
 use lib.IntN.{ℤ, pos, negsuc}
 use borrow.Author.Tests.{le-ltb, lt-ltb, le-leb, lt-leb}
+use Rattle.std.specs.Prelude.{leb}
+use Rattle.std.proofs.lemmas.Bool.Decides.{nat_tests}
+use Rattle.std.specs.Prelude.{Some, None}
 use Rattle.numbers.specs.Field.{field_of}
 use Rattle.numbers.specs.Computed.Address.{in_memory, address_of, window_fits, wholly, word_of}
 use Rattle.numbers.specs.Inner.Shift.{shift_of}
-use Rattle.numbers.specs.declared.address.Address.TheVariants.{At, Outside}
-use Rattle.numbers.specs.declared.address.Word.TheVariants as word
 use Rattle.numbers.specs.declared.field.Order.{Order}
 use Rattle.numbers.specs.declared.offset.Shift.TheVariants.{Up, Down}
 
-at_most : (n : ℕ) → n < 2 ^ 64 → At n ≡ in_memory (pos n)
+at_most : (n : ℕ) → n < 2 ^ 64 → Some n ≡ in_memory (pos n)
 unfolding in_memory
 at_most n h = rw (lt-ltb n (2 ^ 64) h, in_memory)
 
-past : (n : ℕ) → 2 ^ 64 ≤ n → Outside ≡ in_memory (pos n)
+past : (n : ℕ) → 2 ^ 64 ≤ n → None ≡ in_memory (pos n)
 unfolding in_memory
 past n h = rw (le-ltb n (2 ^ 64) h, in_memory)
 
-pub up_at : (base : ℕ) (by : ℤ) {k : ℕ} → shift_of by ≡ Up k → base + k < 2 ^ 64 → At (base + k) ≡ address_of base by
+pub up_at : (base : ℕ) (by : ℤ) {k : ℕ} → shift_of by ≡ Up k → base + k < 2 ^ 64 → Some (base + k) ≡ address_of base by
 unfolding shift_of address_of
 up_at base (pos j) {k} e h = let same : j ≡ k = cc in rw same (at_most (base + k) h)
 up_at base (negsuc j) {k} e h = absurd (let z : ◌≡◌ {A = ℕ} 0 1 = cc in omega arith)
 
-pub up_outside : (base : ℕ) (by : ℤ) {k : ℕ} → shift_of by ≡ Up k → 2 ^ 64 ≤ base + k → Outside ≡ address_of base by
+pub up_outside : (base : ℕ) (by : ℤ) {k : ℕ} → shift_of by ≡ Up k → 2 ^ 64 ≤ base + k → None ≡ address_of base by
 unfolding shift_of address_of
 up_outside base (pos j) {k} e h = let same : j ≡ k = cc in rw same (past (base + k) h)
 up_outside base (negsuc j) {k} e h = absurd (let z : ◌≡◌ {A = ℕ} 0 1 = cc in omega arith)
 
-pub down_at : (base : ℕ) (by : ℤ) {k : ℕ} → shift_of by ≡ Down k → k ≤ base → base < 2 ^ 64 → At (base - k) ≡ address_of base by
+pub down_at : (base : ℕ) (by : ℤ) {k : ℕ} → shift_of by ≡ Down k → k ≤ base → base < 2 ^ 64 → Some (base - k) ≡ address_of base by
 unfolding shift_of address_of
 down_at base (pos j) {k} e h b = absurd (let z : ◌≡◌ {A = ℕ} 0 1 = cc in omega arith)
 down_at base (negsuc j) {k} e h b =
@@ -42,7 +43,7 @@ down_at base (negsuc j) {k} e h b =
     let less : base - k ≡ base - suc j = omega arith in
     rw (less, le-ltb base (suc j) (omega arith)) (at_most (base - suc j) (omega arith))
 
-pub down_outside : (base : ℕ) (by : ℤ) {k : ℕ} → shift_of by ≡ Down k → base < k → Outside ≡ address_of base by
+pub down_outside : (base : ℕ) (by : ℤ) {k : ℕ} → shift_of by ≡ Down k → base < k → None ≡ address_of base by
 unfolding shift_of address_of in_memory
 down_outside base (pos j) {k} e h = absurd (let z : ◌≡◌ {A = ℕ} 0 1 = cc in omega arith)
 down_outside base (negsuc j) {k} e h =
@@ -51,17 +52,17 @@ down_outside base (negsuc j) {k} e h =
 
 -- ---- a word, by the tests of its place
 
-pub word_below : (window : List ℕ) (lies at : ℕ) (order : Order) → at < lies → word.Outside ≡ word_of window lies at order
+pub word_below : (window : List ℕ) (lies at : ℕ) (order : Order) → at < lies → None ≡ word_of window lies at order
 unfolding wholly word_of
 word_below window lies at order h = rw (lt-leb lies at h, word_of)
 
 pub word_past : (window : List ℕ) (lies at : ℕ) (order : Order) → lies ≤ at → lies + length window < at + 8
-    → word.Outside ≡ word_of window lies at order
+    → None ≡ word_of window lies at order
 unfolding wholly word_of
 word_past window lies at order h i = rw (le-leb lies at h, lt-leb (at + 8) (lies + length window) i, word_of)
 
 pub word_inside : (window : List ℕ) (lies at : ℕ) (order : Order) → lies ≤ at → at + 8 ≤ lies + length window
-    → word.Is (field_of window (at - lies) 8 order) ≡ word_of window lies at order
+    → Some (field_of window (at - lies) 8 order) ≡ word_of window lies at order
 unfolding wholly word_of
 word_inside window lies at order h i = rw (le-leb lies at h, le-leb (at + 8) (lies + length window) i, word_of)
 
@@ -71,6 +72,8 @@ pub fits_yes : (window : List ℕ) (lies : ℕ) → lies + length window ≤ 2 ^
 unfolding window_fits
 fits_yes window lies h = sym (le-leb (lies + length window) (2 ^ 64) h)
 
-pub fits_no : (window : List ℕ) (lies : ℕ) → 2 ^ 64 < lies + length window → false ≡ window_fits window lies
+-- one byte less on both sides
+pub fits_last : (window : List ℕ) (lies : ℕ) → 1 ≤ length window → lies < 2 ^ 64
+    → leb (length window - 1) (2 ^ 64 - 1 - lies) ≡ window_fits window lies
 unfolding window_fits
-fits_no window lies h = sym (lt-leb (lies + length window) (2 ^ 64) h)
+fits_last window lies h i = grind (arith, nat_tests)

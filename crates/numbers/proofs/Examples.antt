@@ -5,6 +5,7 @@ use mathlib.Core.Bool.{true, false}
 use mathlib.Core.List.{List, [], ◌∷◌}
 use Prim.Native.Nat.{ℕ, ◌-◌, ◌^◌}
 use lib.IntN.{pos, negsuc}
+use Rattle.std.specs.Prelude.{Some, None, Err}
 use Rattle.numbers.specs.Field.{field_of}
 use Rattle.numbers.specs.Signed.{signed_of}
 use Rattle.numbers.specs.Start.{start_at, distance}
@@ -12,9 +13,7 @@ use Rattle.numbers.specs.Computed.Address.{address_of, window_fits, word_of}
 use Rattle.numbers.specs.Computed.Number.{number_of}
 use Rattle.numbers.specs.Inner.Held.{near}
 use Rattle.numbers.specs.Inner.Opened.{numbers_opened}
-use Rattle.numbers.specs.declared.address.Address.TheVariants as address
-use Rattle.numbers.specs.declared.address.Word.TheVariants as word
-use Rattle.numbers.specs.declared.field.Number.TheVariants as number_is
+use Rattle.numbers.specs.declared.field.NumberError.TheVariants.{Outside}
 use Rattle.numbers.specs.declared.field.Order.TheVariants.{Little, Big}
 
 -- the magic of section S, in the two orders
@@ -27,7 +26,7 @@ unfolding numbers_opened
 magic_big = refl
 
 -- a number that would end one byte past the list is outside
-cut : number_of (1 ∷ 2 ∷ 3 ∷ []) 0 2 Little ≡ number_is.Outside
+cut : number_of (1 ∷ 2 ∷ 3 ∷ []) 0 2 Little ≡ Err Outside
 unfolding numbers_opened
 cut = refl
 
@@ -69,15 +68,15 @@ unfolding numbers_opened
 far_below_held = refl
 
 -- CFA one past the last address, and one below the first, are outside
-past_the_last : address_of (2 ^ 64 - 1) (pos 1) ≡ address.Outside
+past_the_last : address_of (2 ^ 64 - 1) (pos 1) ≡ None
 unfolding numbers_opened
 past_the_last = refl
 
-the_last : address_of (2 ^ 64 - 9) (pos 8) ≡ address.At (2 ^ 64 - 1)
+the_last : address_of (2 ^ 64 - 9) (pos 8) ≡ Some (2 ^ 64 - 1)
 unfolding numbers_opened
 the_last = refl
 
-below_the_first : address_of 7 (negsuc 7) ≡ address.Outside
+below_the_first : address_of 7 (negsuc 7) ≡ None
 unfolding numbers_opened
 below_the_first = refl
 
@@ -85,11 +84,11 @@ below_the_first = refl
 bytes : List ℕ
 bytes = 1 ∷ 0 ∷ 0 ∷ 0 ∷ 0 ∷ 0 ∷ 0 ∷ 2 ∷ 3 ∷ []
 
-word_at_end : word_of bytes 0x7000 0x7001 Big ≡ word.Is 0x203
+word_at_end : word_of bytes 0x7000 0x7001 Big ≡ Some 0x203
 unfolding numbers_opened bytes
 word_at_end = refl
 
-word_past_end : word_of bytes 0x7000 0x7002 Big ≡ word.Outside
+word_past_end : word_of bytes 0x7000 0x7002 Big ≡ None
 unfolding numbers_opened bytes
 word_past_end = refl
 

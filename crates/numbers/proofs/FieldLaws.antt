@@ -3,17 +3,19 @@
 -- Assumes nothing.
 use mathlib.Core.Path.{◌≡◌, refl, sym, ◌∙◌, ap}
 use mathlib.Core.List.{List, [], ◌∷◌, reverse, reverse-append}
-use Prim.Native.Nat.{ℕ, zero, suc, ◌+◌, ◌-◌, ◌^◌, ◌≤◌, ◌<◌}
-use native.Mathlib.Nat.{add-zero, pow-succ'}
+use Prim.Native.Nat.{ℕ, zero, suc, ◌+◌, ◌-◌, ◌*◌, ◌^◌, ◌≤◌, ◌<◌}
+use native.Mathlib.Nat.{add-zero, pow-succ', pow-le-pow_right}
+use Rattle.std.proofs.Common.{add-one}
 use native.Mathlib.Omega.{arith}
 use lib.Dec.{lit<}
 use lib.ListN.{length, take, drop, get_or, length-drop}
 use lib.Seq.{take-suc, drop-cons, get_or-drop}
 use borrow.Author.Tests.{le-leb, lt-leb}
+use Rattle.std.specs.Prelude.{Ok, Err}
 use Rattle.numbers.specs.Field.{digits, number_in, field_of, byte_of}
 use Rattle.numbers.specs.Computed.Number.{number_of}
 use Rattle.numbers.specs.Inner.Digits.{digit_place}
-use Rattle.numbers.specs.declared.field.Number.TheVariants.{Is, Outside, NoWidth}
+use Rattle.numbers.specs.declared.field.NumberError.TheVariants.{Outside, NoWidth}
 use Rattle.numbers.specs.declared.field.Order.{Order}
 use Rattle.numbers.specs.declared.field.Order.TheVariants.{Little, Big}
 
@@ -45,6 +47,36 @@ unfolding field_of number_in digit_place
 by_digits bytes at width Little h = ap digits (rw add-zero at (forward bytes at width 0 (omega arith)))
 by_digits bytes at width Big h = ap digits (backward bytes at width width 0 h (omega arith))
 
+-- ---- from the highest digit down
+
+-- the digit below the k highest ones is put behind them
+pub digit_more : (f : ℕ → ℕ) (k n number digit : ℕ) → k < n → number ≡ digits (values_of f k (n - k)) → digit ≡ f (n - 1 - k)
+    → 256 * number + digit ≡ digits (values_of f (k + 1) (n - (k + 1)))
+unfolding digits
+digit_more f k n number digit h e i =
+    let left : n - (k + 1) ≡ n - 1 - k = omega arith in
+    let above : n - k ≡ suc (n - 1 - k) = omega arith in
+    rw (left, add-one) (rw (e, i, above) (omega arith))
+
+pub digit_below : (k number digit : ℕ) → number < 256 ^ k → digit < 256 → 256 * number + digit < 256 ^ (k + 1)
+digit_below k number digit h i = rw (add-one, pow-succ') (omega arith)
+
+-- and the number has room for it
+pub digit_fits : (number k n : ℕ) → number < 256 ^ k → k < n → n ≤ 8 → 256 * number + 255 < 2 ^ 64
+digit_fits number k n h i j =
+    let few : k ≤ 7 = omega arith in
+    let most : 256 ^ k ≤ 256 ^ 7 = pow-le-pow_right (lit< tt) few in
+    omega arith
+
+-- with all digits it is the field
+pub digits_all : (bytes : List ℕ) (at width k number : ℕ) (order : Order) → at + width ≤ length bytes → k ≤ width → width ≤ k
+    → number ≡ digits (values_of (λ j. get_or bytes (digit_place order at width j) 0) k (width - k))
+    → number ≡ field_of bytes at width order
+digits_all bytes at width k number order h i l e =
+    let all : k ≡ width = omega arith in
+    let none : width - k ≡ 0 = omega arith in
+    rw (by_digits bytes at width order h) ((rw (none, all) at e))
+
 -- one byte is one digit, in either order
 one_digit : (bytes : List ℕ) (at : ℕ) (order : Order) → at + 1 ≤ length bytes → field_of bytes at 1 order ≡ get_or bytes at 0
 unfolding digits digit_place
@@ -60,16 +92,16 @@ byte_in bytes at order h = sym (byte_is bytes at h) ∙ sym (one_digit bytes at 
 
 -- ---- a number by the code of its width, by the tests of its code and place
 
-pub no_width : (bytes : List ℕ) (at code : ℕ) (order : Order) → 3 < code → NoWidth ≡ number_of bytes at code order
+pub no_width : (bytes : List ℕ) (at code : ℕ) (order : Order) → 3 < code → Err NoWidth ≡ number_of bytes at code order
 unfolding number_of
 no_width bytes at code order h = rw (lt-leb code 3 h, number_of)
 
-pub number_outside : (bytes : List ℕ) (at code : ℕ) (order : Order) → code ≤ 3 → length bytes < at + 2 ^ code → Outside ≡ number_of bytes at code order
+pub number_outside : (bytes : List ℕ) (at code : ℕ) (order : Order) → code ≤ 3 → length bytes < at + 2 ^ code → Err Outside ≡ number_of bytes at code order
 unfolding number_of
 number_outside bytes at code order h i = rw (le-leb code 3 h, number_of) (rw (lt-leb (at + 2 ^ code) (length bytes) i))
 
 pub number_is : (bytes : List ℕ) (at code : ℕ) (order : Order) → code ≤ 3 → at + 2 ^ code ≤ length bytes
-    → Is (field_of bytes at (2 ^ code) order) ≡ number_of bytes at code order
+    → Ok (field_of bytes at (2 ^ code) order) ≡ number_of bytes at code order
 unfolding number_of
 number_is bytes at code order h i = rw (le-leb code 3 h, number_of) (rw (le-leb (at + 2 ^ code) (length bytes) i))
 

@@ -11,12 +11,11 @@ use Rattle.numbers.proofs.TheLinks.numbers-offset-shift_of as link-offset-shift_
 use Rattle.numbers.proofs.TheLinks.numbers-address-address_of as link-address-address_of
 use Rattle.numbers.proofs.TheLinks.numbers-address-window_fits as link-address-window_fits
 use Rattle.numbers.proofs.TheLinks.numbers-field-digit_at as link-field-digit_at
-use Rattle.numbers.proofs.TheLinks.numbers-field-in8 as link-field-in8
+use Rattle.numbers.proofs.TheLinks.numbers-field-bytes_at as link-field-bytes_at
 use Rattle.numbers.proofs.TheLinks.numbers-field-u64_at as link-field-u64_at
 use Rattle.numbers.proofs.TheLinks.numbers-address-word_at as link-address-word_at
-use Rattle.numbers.proofs.TheLinks.numbers-field-in2 as link-field-in2
+use Rattle.numbers.proofs.TheLinks.numbers-field-OrderPartialEq-eq as link-field-OrderPartialEq-eq
 use Rattle.numbers.proofs.TheLinks.numbers-field-u16_at as link-field-u16_at
-use Rattle.numbers.proofs.TheLinks.numbers-field-in4 as link-field-in4
 use Rattle.numbers.proofs.TheLinks.numbers-field-u32_at as link-field-u32_at
 use Rattle.numbers.proofs.TheLinks.numbers-field-u8_at as link-field-u8_at
 use Rattle.numbers.proofs.TheLinks.numbers-field-field_at as link-field-field_at
@@ -37,12 +36,11 @@ entries more =
     ("numbers::address::address_of", link-address-address_of.entry) ∷
     ("numbers::address::window_fits", link-address-window_fits.entry) ∷
     ("numbers::field::digit_at", link-field-digit_at.entry) ∷
-    ("numbers::field::in8", link-field-in8.entry) ∷
+    ("numbers::field::bytes_at", link-field-bytes_at.entry) ∷
     ("numbers::field::u64_at", link-field-u64_at.entry) ∷
     ("numbers::address::word_at", link-address-word_at.entry) ∷
-    ("numbers::field::in2", link-field-in2.entry) ∷
+    ("numbers::field::OrderPartialEq::eq", link-field-OrderPartialEq-eq.entry) ∷
     ("numbers::field::u16_at", link-field-u16_at.entry) ∷
-    ("numbers::field::in4", link-field-in4.entry) ∷
     ("numbers::field::u32_at", link-field-u32_at.entry) ∷
     ("numbers::field::u8_at", link-field-u8_at.entry) ∷
     ("numbers::field::field_at", link-field-field_at.entry) ∷
@@ -63,12 +61,11 @@ pub record Finds (look : Symbol → Entry) : Type 0 where
   pub address_address_of : look "numbers::address::address_of" ≡ link-address-address_of.entry
   pub address_window_fits : look "numbers::address::window_fits" ≡ link-address-window_fits.entry
   pub field_digit_at : look "numbers::field::digit_at" ≡ link-field-digit_at.entry
-  pub field_in8 : look "numbers::field::in8" ≡ link-field-in8.entry
+  pub field_bytes_at : look "numbers::field::bytes_at" ≡ link-field-bytes_at.entry
   pub field_u64_at : look "numbers::field::u64_at" ≡ link-field-u64_at.entry
   pub address_word_at : look "numbers::address::word_at" ≡ link-address-word_at.entry
-  pub field_in2 : look "numbers::field::in2" ≡ link-field-in2.entry
+  pub field_OrderPartialEq_eq : look "numbers::field::OrderPartialEq::eq" ≡ link-field-OrderPartialEq-eq.entry
   pub field_u16_at : look "numbers::field::u16_at" ≡ link-field-u16_at.entry
-  pub field_in4 : look "numbers::field::in4" ≡ link-field-in4.entry
   pub field_u32_at : look "numbers::field::u32_at" ≡ link-field-u32_at.entry
   pub field_u8_at : look "numbers::field::u8_at" ≡ link-field-u8_at.entry
   pub field_field_at : look "numbers::field::field_at" ≡ link-field-field_at.entry
@@ -95,26 +92,23 @@ module _ (look : Symbol → Entry) (here : Finds look) where
   pub field_digit_at : HasT look false link-field-digit_at.code
   field_digit_at = link-field-digit_at.has look false here.field_digit_at
 
-  pub field_in8 : HasT look false link-field-in8.code
-  field_in8 = link-field-in8.has look false here.field_in8 field_digit_at
+  pub field_bytes_at : HasT look false link-field-bytes_at.code
+  field_bytes_at = link-field-bytes_at.has look false here.field_bytes_at field_digit_at
 
   pub field_u64_at : HasT look false link-field-u64_at.code
-  field_u64_at = link-field-u64_at.has look false here.field_u64_at field_in8
+  field_u64_at = link-field-u64_at.has look false here.field_u64_at field_bytes_at
 
   pub address_word_at : HasT look false link-address-word_at.code
   address_word_at = link-address-word_at.has look false here.address_word_at field_u64_at
 
-  pub field_in2 : HasT look false link-field-in2.code
-  field_in2 = link-field-in2.has look false here.field_in2 field_digit_at
+  pub field_OrderPartialEq_eq : HasT look false link-field-OrderPartialEq-eq.code
+  field_OrderPartialEq_eq = link-field-OrderPartialEq-eq.has look false here.field_OrderPartialEq_eq
 
   pub field_u16_at : HasT look false link-field-u16_at.code
-  field_u16_at = link-field-u16_at.has look false here.field_u16_at field_in2
-
-  pub field_in4 : HasT look false link-field-in4.code
-  field_in4 = link-field-in4.has look false here.field_in4 field_digit_at
+  field_u16_at = link-field-u16_at.has look false here.field_u16_at field_bytes_at
 
   pub field_u32_at : HasT look false link-field-u32_at.code
-  field_u32_at = link-field-u32_at.has look false here.field_u32_at field_in4
+  field_u32_at = link-field-u32_at.has look false here.field_u32_at field_bytes_at
 
   pub field_u8_at : HasT look false link-field-u8_at.code
   field_u8_at = link-field-u8_at.has look false here.field_u8_at

@@ -5,34 +5,22 @@ ghost use Rattle.numbers.specs.Computed.Address.{address_of, window_fits, word_o
 use crate::field::{Order, u64_at};
 use crate::offset::{Offset, Shift, shift_of};
 
-#[derive(Clone, Copy)]
-pub enum Address {
-    At(u64),
-    Outside,
-}
-
-#[derive(Clone, Copy)]
-pub enum Word {
-    Is(u64),
-    Outside,
-}
-
 // A base plus an offset, where that is an address at all.
-pub fn address_of(base: u64, offset: Offset) -> Address
+pub fn address_of(base: u64, offset: Offset) -> Option<u64>
     ensures { result ≡ address_of base offset.by }
 {
     match shift_of(offset) {
         Shift::Up(k) => {
             if k <= u64::MAX - base {
-                return Address::At(base + k);
+                return Some(base + k);
             }
-            Address::Outside
+            None
         }
         Shift::Down(k) => {
             if k <= base {
-                return Address::At(base - k);
+                return Some(base - k);
             }
-            Address::Outside
+            None
         }
     }
 }
@@ -46,26 +34,23 @@ pub fn window_fits(window: &[u8], lies: u64) -> bool
         return true;
     }
     // One byte less on both sides, since 2^64 is no u64.
-    if length - 1 <= u64::MAX - lies {
-        return true;
-    }
-    false
+    length - 1 <= u64::MAX - lies
 }
 
 // The word at an address, where it is wholly inside the window.
-pub fn word_at(window: &[u8], lies: u64, at: u64, order: Order) -> Word
+pub fn word_at(window: &[u8], lies: u64, at: u64, order: Order) -> Option<u64>
     ensures { result ≡ word_of window.now lies at order }
 {
     let length = window.len() as u64;
     if at < lies {
-        return Word::Outside;
+        return None;
     }
     if length < 8 {
-        return Word::Outside;
+        return None;
     }
     let place = at - lies;
     if length - 8 < place {
-        return Word::Outside;
+        return None;
     }
-    Word::Is(u64_at(window, place as usize, order))
+    Some(u64_at(window, place as usize, order))
 }

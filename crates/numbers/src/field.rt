@@ -5,16 +5,15 @@ ghost use Rattle.numbers.specs.Field.{field_of, byte_of};
 ghost use Rattle.numbers.specs.Inner.Digits.{digit_place};
 ghost use Rattle.numbers.specs.Computed.Number.{number_of};
 
-#[derive(Clone, Copy)]
+#[derive(Clone, Copy, PartialEq, Eq)]
 pub enum Order {
     Little,
     Big,
 }
 
-// What reading a number finds.
+// Why there is no number to read.
 #[derive(Clone, Copy)]
-pub enum Number {
-    Is(u64),
+pub enum NumberError {
     // Some of its bytes would lie outside.
     Outside,
     // No width has that code.
@@ -32,41 +31,19 @@ fn digit_at(bytes: &[u8], at: usize, width: usize, k: usize, order: Order) -> u8
     }
 }
 
-// The readers of 2, 4 and 8 bytes are written once over the order. They are private: `u16_at` and its like match the order
-// outermost, so that each arm is compiled to one load, or a load and a byte swap.
-fn in2(bytes: &[u8], at: usize, order: Order) -> u16
-    requires { at + 2 ≤ length bytes.now }
-    ensures { result ≡ field_of bytes.now at 2 order }
+// The number of N bytes at `at`, from its highest digit down. It is compiled into each reader below, where N is known: to one load, or
+// a load and a byte swap.
+#[inline(always)]
+fn bytes_at<const N: usize>(bytes: &[u8], at: usize, order: Order) -> u64
+    requires { (N ≤ 8) × (at + N ≤ length bytes.now) }
+    ensures value { result ≡ field_of bytes.now at N order }
+    ensures range { result < 256 ^ N }
 {
-    let d0 = digit_at(bytes, at, 2, 0, order) as u16;
-    let d1 = digit_at(bytes, at, 2, 1, order) as u16;
-    d0 + 256 * d1
-}
-
-fn in4(bytes: &[u8], at: usize, order: Order) -> u32
-    requires { at + 4 ≤ length bytes.now }
-    ensures { result ≡ field_of bytes.now at 4 order }
-{
-    let d0 = digit_at(bytes, at, 4, 0, order) as u32;
-    let d1 = digit_at(bytes, at, 4, 1, order) as u32;
-    let d2 = digit_at(bytes, at, 4, 2, order) as u32;
-    let d3 = digit_at(bytes, at, 4, 3, order) as u32;
-    d0 + 256 * (d1 + 256 * (d2 + 256 * d3))
-}
-
-fn in8(bytes: &[u8], at: usize, order: Order) -> u64
-    requires { at + 8 ≤ length bytes.now }
-    ensures { result ≡ field_of bytes.now at 8 order }
-{
-    let d0 = digit_at(bytes, at, 8, 0, order) as u64;
-    let d1 = digit_at(bytes, at, 8, 1, order) as u64;
-    let d2 = digit_at(bytes, at, 8, 2, order) as u64;
-    let d3 = digit_at(bytes, at, 8, 3, order) as u64;
-    let d4 = digit_at(bytes, at, 8, 4, order) as u64;
-    let d5 = digit_at(bytes, at, 8, 5, order) as u64;
-    let d6 = digit_at(bytes, at, 8, 6, order) as u64;
-    let d7 = digit_at(bytes, at, 8, 7, order) as u64;
-    d0 + 256 * (d1 + 256 * (d2 + 256 * (d3 + 256 * (d4 + 256 * (d5 + 256 * (d6 + 256 * d7))))))
+    let mut number = 0;
+    for k in 0..N {
+        number = 256 * number + digit_at(bytes, at, N, N - 1 - k, order) as u64;
+    }
+    number
 }
 
 // The byte at `at`.
@@ -83,8 +60,8 @@ pub fn u16_at(bytes: &[u8], at: usize, order: Order) -> u16
     ensures { result ≡ field_of bytes.now at 2 order }
 {
     match order {
-        Order::Little => in2(bytes, at, Order::Little),
-        Order::Big => in2(bytes, at, Order::Big),
+        Order::Little => bytes_at::<2>(bytes, at, Order::Little) as u16,
+        Order::Big => bytes_at::<2>(bytes, at, Order::Big) as u16,
     }
 }
 
@@ -94,8 +71,8 @@ pub fn u32_at(bytes: &[u8], at: usize, order: Order) -> u32
     ensures { result ≡ field_of bytes.now at 4 order }
 {
     match order {
-        Order::Little => in4(bytes, at, Order::Little),
-        Order::Big => in4(bytes, at, Order::Big),
+        Order::Little => bytes_at::<4>(bytes, at, Order::Little) as u32,
+        Order::Big => bytes_at::<4>(bytes, at, Order::Big) as u32,
     }
 }
 
@@ -105,8 +82,8 @@ pub fn u64_at(bytes: &[u8], at: usize, order: Order) -> u64
     ensures { result ≡ field_of bytes.now at 8 order }
 {
     match order {
-        Order::Little => in8(bytes, at, Order::Little),
-        Order::Big => in8(bytes, at, Order::Big),
+        Order::Little => bytes_at::<8>(bytes, at, Order::Little),
+        Order::Big => bytes_at::<8>(bytes, at, Order::Big),
     }
 }
 
@@ -131,21 +108,21 @@ pub fn field_at(bytes: &[u8], at: usize, code: usize, order: Order) -> u32
 }
 
 // The number of 1, 2, 4 or 8 bytes at `at`, for any place and any code.
-pub fn number_at(bytes: &[u8], at: usize, code: usize, order: Order) -> Number
+pub fn number_at(bytes: &[u8], at: usize, code: usize, order: Order) -> Result<u64, NumberError>
     ensures { result ≡ number_of bytes.now at code order }
 {
     if 3 < code {
-        return Number::NoWidth;
+        return Err(NumberError::NoWidth);
     }
     let width = width_of(code);
     if bytes.len() < width {
-        return Number::Outside;
+        return Err(NumberError::Outside);
     }
     if bytes.len() - width < at {
-        return Number::Outside;
+        return Err(NumberError::Outside);
     }
     if code == 3 {
-        return Number::Is(u64_at(bytes, at, order));
+        return Ok(u64_at(bytes, at, order));
     }
-    Number::Is(field_at(bytes, at, code, order) as u64)
+    Ok(field_at(bytes, at, code, order) as u64)
 }

@@ -42,25 +42,21 @@ pub struct Layout {
 }
 
 // Bit k of a byte.
+#[tactic(auto, unfolding(crate::specs::Header::bit_of))]
 pub fn bit_of(k: u32, byte: u8) -> bool
     requires { k < 8 }
     ensures { result ≡ bit_of k byte }
 {
-    if (byte >> k) % 2 == 1 {
-        return true;
-    }
-    false
+    (byte >> k) % 2 == 1
 }
 
 // Whether the first two bytes make the magic in this order.
+#[tactic(auto, unfolding(crate::specs::Header::magic_in))]
 pub fn magic_in(section: &[u8], order: Order) -> bool
     requires { 28 ≤ length section.now }
     ensures { result ≡ magic_in section.now order }
 {
-    if u16_at(section, 0, order) == 0xdee2 {
-        return true;
-    }
-    false
+    u16_at(section, 0, order) == 0xdee2
 }
 
 pub fn order_at(section: &[u8]) -> Order

@@ -72,13 +72,11 @@ pub fn offset_size_of(info: u8) -> u8
 }
 
 // Whether the return address is signed, where the ABI knows such a thing.
+#[tactic(auto, unfolding(crate::specs::Row::signed_bit))]
 fn is_signed(signs: bool, info: u8) -> bool
     ensures { result ≡ signs && signed_bit info }
 {
-    if signs {
-        return bit_of(7, info);
-    }
-    false
+    signs && bit_of(7, info)
 }
 
 // How many bytes the offsets have that an info byte announces: at most 15 of 8 bytes, if any info byte is taken.

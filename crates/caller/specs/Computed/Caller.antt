@@ -2,10 +2,6 @@
 -- document 01's order. A section is known through `look` alone: what a lookup finds at a PC.
 use Rattle.std.specs.Prelude.{ℕ, Bool, true, false, not, ◌&&◌, ◌||◌, List, eqb, ltb}
 use Rattle.numbers.specs.Computed.Address.{in_memory, address_of, window_fits, word_of}
-use Rattle.numbers.specs.declared.address.Address.{Address}
-use Rattle.numbers.specs.declared.address.Address.TheVariants as address
-use Rattle.numbers.specs.declared.address.Word.{Word}
-use Rattle.numbers.specs.declared.address.Word.TheVariants as word
 use Rattle.numbers.specs.declared.field.Order.{Order}
 use Rattle.section.specs.Meaning.{shape_of}
 use Rattle.section.specs.declared.row.Place.{Place}
@@ -41,9 +37,9 @@ unfoldable pub is_low : Registers → ℕ → Bool
 is_low registers sp = ltb sp registers.sp || (eqb sp registers.sp && not (has_mark registers))
 
 -- "Each saved place is one of two kinds, in a register or at an offset from CFA."
-unfoldable pub spot_at : Address → Spot
-spot_at (address.At at) = Saved at
-spot_at address.Outside = Beyond
+unfoldable pub spot_at : Option ℕ → Spot
+spot_at (Some at) = Saved at
+spot_at None = Beyond
 
 unfoldable pub spot_of : ℕ → Place → Spot
 spot_of cfa Register = Kept
@@ -56,16 +52,16 @@ is_lost registers (Saved at) = false
 is_lost registers Beyond = false
 
 -- what stands at a place: the register's value, or a word of the stack, where it is "wholly inside the stack window"
-unfoldable pub value_of : List ℕ → ℕ → Order → ℕ → Spot → Word
-value_of stack lies order register Kept = word.Is register
+unfoldable pub value_of : List ℕ → ℕ → Order → ℕ → Spot → Option ℕ
+value_of stack lies order register Kept = Some register
 value_of stack lies order register (Saved at) = word_of stack lies at order
-value_of stack lies order register Beyond = word.Outside
+value_of stack lies order register Beyond = None
 
 -- "a needed word (RA first)"
-unfoldable pub both_of : Word → Word → Values
-both_of word.Outside fp = NoRa
-both_of (word.Is ra) word.Outside = NoFp
-both_of (word.Is ra) (word.Is fp) = Both ra fp
+unfoldable pub both_of : Option ℕ → Option ℕ → Values
+both_of None fp = NoRa
+both_of (Some ra) None = NoFp
+both_of (Some ra) (Some fp) = Both ra fp
 
 unfoldable pub values_of : List ℕ → ℕ → Order → Registers → Spot → Spot → Values
 values_of stack lies order registers ra fp =
@@ -97,9 +93,9 @@ unfoldable pub unless_maskless : Shape → Process → Registers → Row → Ste
 unless_maskless shape process registers row next = elim (is_maskless shape row process) [ true ↦ Refused registers 24 | false ↦ next ]
 
 -- "25 when outside 0 to 2^64 - 1."
-unfoldable pub with_cfa : Registers → Address → (ℕ → Step) → Step
-with_cfa registers address.Outside next = Refused registers 25
-with_cfa registers (address.At cfa) next = next cfa
+unfoldable pub with_cfa : Registers → Option ℕ → (ℕ → Step) → Step
+with_cfa registers None next = Refused registers 25
+with_cfa registers (Some cfa) next = next cfa
 
 -- 26
 unfoldable pub unless_low : Registers → ℕ → Step → Step

@@ -3,10 +3,6 @@
 use Rattle.std.specs.Prelude.{ℕ, true, false, List, length}
 use Rattle.numbers.specs.Start.{distance}
 use Rattle.numbers.specs.Computed.Address.{in_memory, window_fits}
-use Rattle.numbers.specs.declared.address.Address.{Address}
-use Rattle.numbers.specs.declared.address.Address.TheVariants as address
-use Rattle.numbers.specs.declared.address.Word.{Word}
-use Rattle.numbers.specs.declared.address.Word.TheVariants as word
 use Rattle.numbers.specs.declared.field.Order.{Order}
 use Rattle.numbers.specs.declared.offset.Offset.{Offset}
 use Rattle.section.specs.Meaning.{shape_of}
@@ -41,9 +37,9 @@ use Rattle.explain.specs.declared.why.StepWhy.{StepWhy}
 
 -- ---- what stands at a saved place, or the offset of a word that is not wholly inside the window
 
-unfoldable pub fetched_at : Offset → Word → Fetched
-fetched_at offset (word.Is value) = Is value
-fetched_at offset word.Outside = Missing offset
+unfoldable pub fetched_at : Offset → Option ℕ → Fetched
+fetched_at offset (Some value) = Is value
+fetched_at offset None = Missing offset
 
 unfoldable pub fetched_of : List ℕ → ℕ → Order → ℕ → ℕ → Place → Fetched
 fetched_of stack lies order cfa register Register = Is register
@@ -89,9 +85,9 @@ from_cfa_why shape stack process registers row cfa =
     ]
 
 -- "25 the base register's value and the offset"
-unfoldable pub by_address : Shape → List ℕ → Process → Registers → Row → Address → RowReason
-by_address shape stack process registers row address.Outside = CfaOutside (base_value registers row.base) row.cfa
-by_address shape stack process registers row (address.At cfa) = from_cfa_why shape stack process registers row cfa
+unfoldable pub by_address : Shape → List ℕ → Process → Registers → Row → Option ℕ → RowReason
+by_address shape stack process registers row None = CfaOutside (base_value registers row.base) row.cfa
+by_address shape stack process registers row (Some cfa) = from_cfa_why shape stack process registers row cfa
 
 -- "24 the signed bit and the mask"
 unfoldable pub from_row_why : Shape → List ℕ → Process → Registers → Row → RowReason

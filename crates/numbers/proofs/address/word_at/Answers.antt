@@ -2,7 +2,7 @@
 -- Assumes nothing.
 use mathlib.Core.Path.{◌∙◌, ap}
 use native.Mathlib.Omega.{arith}
-use Rattle.numbers.specs.declared.address.Word.TheVariants.{Is}
+use Rattle.std.specs.Prelude.{Some}
 use Rattle.numbers.proofs.AddressLaws.{word_below, word_past, word_inside}
 use Rattle.numbers.proofs.address.word_at.Goals as goal
 
@@ -16,4 +16,4 @@ pub returns-then-length-place : goal.returns-then-length-place
 returns-then-length-place c = word_past _ _ _ _ c.if-at-lies.false (omega arith)
 
 pub returns : goal.returns
-returns c = ap Is c.u64_at.ensures ∙ word_inside _ _ _ _ c.if-at-lies.false (omega arith)
+returns c = ap Some c.u64_at.ensures ∙ word_inside _ _ _ _ c.if-at-lies.false (omega arith)

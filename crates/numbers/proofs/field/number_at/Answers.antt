@@ -5,7 +5,7 @@ use Prim.Native.Nat.{◌+◌, ◌^◌, ◌≤◌}
 use native.Mathlib.Omega.{arith}
 use lib.Dec.{lit≤}
 use lib.ListN.{length}
-use Rattle.numbers.specs.declared.field.Number.TheVariants.{Is}
+use Rattle.std.specs.Prelude.{Ok}
 use Rattle.numbers.proofs.FieldLaws.{no_width, number_outside, number_is}
 use Rattle.numbers.proofs.field.number_at.Goals as goal
 use Rattle.numbers.proofs.field.number_at.Goals.{Else-bytes-width-2}
@@ -30,7 +30,7 @@ u64_at-requires c = rw c.if-code-eq3.true at (inside (goal.at.u64_at-requires c)
 pub returns-then-code-eq3 : goal.returns-then-code-eq3
 returns-then-code-eq3 c =
     rw c.if-code-eq3.true
-    (ap Is c.u64_at.ensures ∙ number_is _ _ 3 _ (lit≤ tt) (rw c.if-code-eq3.true at (inside (goal.at.returns-then-code-eq3 c).Else-bytes-width-2)))
+    (ap Ok c.u64_at.ensures ∙ number_is _ _ 3 _ (lit≤ tt) (rw c.if-code-eq3.true at (inside (goal.at.returns-then-code-eq3 c).Else-bytes-width-2)))
 
 pub returns : goal.returns
-returns c = ap Is c.field_at.ensures ∙ number_is _ _ _ _ c.if-code-gt3.false (inside (goal.at.returns c).Else-bytes-width-2)
+returns c = ap Ok c.field_at.ensures ∙ number_is _ _ _ _ c.if-code-gt3.false (inside (goal.at.returns c).Else-bytes-width-2)

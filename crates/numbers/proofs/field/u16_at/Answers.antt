@@ -1,9 +1,0 @@
--- `field::u16_at` is `in2` at the order that was matched.
--- Assumes nothing.
-use Rattle.numbers.proofs.field.u16_at.Goals as goal
-
-pub returns-in-Little : goal.returns-in-Little
-returns-in-Little c = rw c.in-Little.is c.in2.ensures
-
-pub returns-in-Big : goal.returns-in-Big
-returns-in-Big c = rw c.in-Big.is c.in2-in-Big.ensures
