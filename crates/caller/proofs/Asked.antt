@@ -6,6 +6,7 @@ use mathlib.Core.List.{List}
 use mathlib.Core.Logic.{inl, inr, ◌↔◌, ⊎_elim}
 use Prim.Native.Nat.{ℕ, zero, suc, ◌+◌}
 use native.Mathlib.Omega.{arith}
+use Rattle.std.specs.Prelude.{Some, None}
 use Rattle.section.specs.declared.row.Base.{Base}
 use Rattle.section.specs.declared.row.Base.TheVariants.{Fp, Sp}
 use Rattle.section.specs.declared.shape.Shape.{Shape}
@@ -13,7 +14,6 @@ use Rattle.lookup.specs.Finding.{Finding}
 use Rattle.caller.specs.Cases.{Asks, AsksNothing, CfaIs, RowFound, CallerCase}
 use Rattle.caller.specs.Frame.{just_before, asked_of, base_value, cfa_of}
 use Rattle.caller.specs.Computed.Caller.{step_of, step_in}
-use Rattle.caller.specs.declared.registers.Asked.TheVariants.{At, Nowhere}
 use Rattle.caller.specs.declared.registers.Registers.{Registers}
 use Rattle.caller.specs.declared.registers.Step.TheVariants.{Caller, Refused}
 use Rattle.caller.specs.declared.registers.Process.{Process}
@@ -24,35 +24,35 @@ use Rattle.caller.proofs.TestLaws.{mark_shows}
 
 -- ---- one before a PC
 
-before_at : (from pc : ℕ) → (just_before from ≡ At pc) ↔ (pc + 1 ≡ from)
+before_at : (from pc : ℕ) → (just_before from ≡ Some pc) ↔ (pc + 1 ≡ from)
 unfolding just_before
 before_at zero pc = (λ e. absurd (let z : ◌≡◌ {A = ℕ} 0 1 = cc in omega arith), λ e. absurd (omega arith))
-before_at (suc from) pc = (λ e. let same : from ≡ pc = cc in omega arith, λ e. ap At (omega arith))
+before_at (suc from) pc = (λ e. let same : from ≡ pc = cc in omega arith, λ e. ap Some (omega arith))
 
-before_nowhere : (from : ℕ) → (just_before from ≡ Nowhere) ↔ (from ≡ 0)
+before_nowhere : (from : ℕ) → (just_before from ≡ None) ↔ (from ≡ 0)
 unfolding just_before
 before_nowhere zero = (λ e. refl, λ e. refl)
 before_nowhere (suc from) = (λ e. absurd (let z : ◌≡◌ {A = ℕ} 0 1 = cc in omega arith), λ e. absurd (omega arith))
 
 module _ (registers : Registers) where
   -- "without the first-frame mark, look up PC minus 1; with it, PC itself."
-  pub asked_exactly_when : (pc : ℕ) → (asked_of registers ≡ At pc) ↔ Asks registers pc
+  pub asked_exactly_when : (pc : ℕ) → (asked_of registers ≡ Some pc) ↔ Asks registers pc
   asked_exactly_when pc = (
     λ e.
         by_shown (mark_shows registers) (λ none. inr (none, (before_at registers.pc pc).0 (asked_unmarked registers none ∙ e))) λ set.
-        let same : At registers.pc ≡ At pc = asked_marked registers set ∙ e in
+        let same : Some registers.pc ≡ Some pc = asked_marked registers set ∙ e in
         inl (set, cc),
     ⊎_elim
-        (λ h. sym (asked_marked registers h.0) ∙ ap At (sym h.1))
+        (λ h. sym (asked_marked registers h.0) ∙ ap Some (sym h.1))
         (λ h. sym (asked_unmarked registers h.0) ∙ (before_at registers.pc pc).1 h.1),
   )
 
   -- "PC 0 without the mark"
-  pub nowhere_exactly_when : (asked_of registers ≡ Nowhere) ↔ AsksNothing registers
+  pub nowhere_exactly_when : (asked_of registers ≡ None) ↔ AsksNothing registers
   nowhere_exactly_when = (
     λ e.
         by_shown (mark_shows registers) (λ none. (none, (before_nowhere registers.pc).0 (asked_unmarked registers none ∙ e))) λ set.
-        let same : At registers.pc ≡ Nowhere = asked_marked registers set ∙ e in
+        let same : Some registers.pc ≡ None = asked_marked registers set ∙ e in
         absurd (let z : ◌≡◌ {A = ℕ} 0 1 = cc in omega arith),
     λ h. sym (asked_unmarked registers h.0) ∙ (before_nowhere registers.pc).1 h.1,
   )

@@ -8,6 +8,7 @@ use mathlib.Core.Logic.{◌⊎◌, inl, inr, ◌↔◌, ⊎_elim}
 use Prim.Native.Nat.{ℕ}
 use native.Mathlib.Omega.{arith}
 use lib.IntN.{ℤ}
+use Rattle.std.specs.Prelude.{Option, Some, None, Result, Ok, Err}
 use Rattle.section.specs.Header.{layout_of}
 use Rattle.section.specs.Meaning.{shape_of}
 use Rattle.section.specs.Row.{count_of}
@@ -31,8 +32,8 @@ use Rattle.caller.specs.InBytes.{SignedInBytes, CallerInBytes}
 use Rattle.caller.specs.Numbers.{Refusal, unfound, signed, cfa_outside, cfa_low, ra_lost, word_outside, number_of_refusal, StepCause, window, unsound, refused, number_of_step_cause, step_number, step_indexes, step_registers}
 use Rattle.caller.specs.Computed.Caller.{both_of, if_fits, step_after, look_at, with_values, step_of, step_in}
 use Rattle.caller.specs.declared.place.Values.{Values}
-use Rattle.caller.specs.declared.place.Values.TheVariants.{Both, NoRa, NoFp}
-use Rattle.caller.specs.declared.registers.Asked.TheVariants.{At}
+use Rattle.caller.specs.declared.place.Needed.{Needed}
+use Rattle.caller.specs.declared.place.Needed.TheVariants.{Ra, Fp}
 use Rattle.caller.specs.declared.registers.Registers.{Registers}
 use Rattle.caller.specs.declared.registers.Step.{Step}
 use Rattle.caller.specs.declared.registers.Step.TheVariants.{Caller, Unsound, Refused}
@@ -112,7 +113,7 @@ module _ (s stack : List ℕ) (process : Process) (registers : Registers) where
       ↔ (WindowFits stack process
       × Obeys s
       × (pc : ℕ)
-      × (asked_of registers ≡ At pc)
+      × (asked_of registers ≡ Some pc)
       × (i : ℕ)
       × (k : ℕ)
       × ((lookup_of s process.section pc).outcome ≡ Found row i k))
@@ -336,10 +337,10 @@ through_look s t address other same found = rw same (ap (step_of (shape_of t)) (
 -- ---- "a needed word (RA first)": both words refuse with 28, so the order cannot be seen
 
 -- FP's word first
-pub both_fp_first : Option ℕ → Option ℕ → Values
-both_fp_first ra None = NoFp
-both_fp_first None (Some fp) = NoRa
-both_fp_first (Some ra) (Some fp) = Both ra fp
+pub both_fp_first : Option ℕ → Option ℕ → Result Values Needed
+both_fp_first ra None = Err Fp
+both_fp_first None (Some fp) = Err Ra
+both_fp_first (Some ra) (Some fp) = Ok (record { ra = ra; fp = fp })
 
 pub words_order_unseen : (registers : Registers) (mask cfa : ℕ) (ra fp : Option ℕ)
     → with_values registers mask cfa (both_fp_first ra fp) ≡ with_values registers mask cfa (both_of ra fp)

@@ -9,6 +9,7 @@ use native.Mathlib.Omega.{arith}
 use lib.Dec.{leb, ltb}
 use lib.IntN.{ℤ, pos, negsuc}
 use lib.ListN.{length, take, replicate, set}
+use Rattle.std.specs.Prelude.{Option, Some, None, Result, Ok, Err}
 use Rattle.numbers.specs.Field.{field_of}
 use Rattle.numbers.specs.Computed.Address.{in_memory, wholly}
 use Rattle.numbers.specs.declared.field.Order.{Order}
@@ -31,9 +32,8 @@ use Rattle.caller.specs.Inner.Opened.{caller_opened}
 use Rattle.caller.specs.declared.place.Spot.{Spot}
 use Rattle.caller.specs.declared.place.Spot.TheVariants.{Kept, Saved, Beyond}
 use Rattle.caller.specs.declared.place.Values.{Values}
-use Rattle.caller.specs.declared.place.Values.TheVariants.{Both, NoRa, NoFp}
-use Rattle.caller.specs.declared.registers.Asked.{Asked}
-use Rattle.caller.specs.declared.registers.Asked.TheVariants.{At}
+use Rattle.caller.specs.declared.place.Needed.{Needed}
+use Rattle.caller.specs.declared.place.Needed.TheVariants.{Fp}
 use Rattle.caller.specs.declared.registers.Registers.{Registers}
 use Rattle.caller.specs.declared.registers.Step.{Step}
 use Rattle.caller.specs.declared.registers.Step.TheVariants.{Caller, Unsound, Refused}
@@ -179,12 +179,11 @@ unfolding caller_opened loaded leaf spots_by trusting
 trusting_differs order e = let z : ◌≡◌ {A = ℕ} 0 27 = ap step_number e in omega arith
 
 -- the same slip by a mark that is kept: "no mark"
-keeping : Registers → ℕ → Values → Step
-keeping registers cfa NoRa = Refused registers 28
-keeping registers cfa NoFp = Refused registers 28
-keeping registers cfa (Both ra fp) = Caller (record { pc = ra; sp = caller_sp cfa; fp = fp; lr = registers.lr; first = registers.first })
+keeping : Registers → ℕ → Result Values Needed → Step
+keeping registers cfa (Err word) = Refused registers 28
+keeping registers cfa (Ok values) = Caller (record { pc = values.ra; sp = caller_sp cfa; fp = values.fp; lr = registers.lr; first = registers.first })
 
-keeping_differs : ¬ (keeping (leaf 1) 0x7000 (Both 0x401008 0x7030) ≡ with_values (leaf 1) 0 0x7000 (Both 0x401008 0x7030))
+keeping_differs : ¬ (keeping (leaf 1) 0x7000 (Ok (record { ra = 0x401008; fp = 0x7030 })) ≡ with_values (leaf 1) 0 0x7000 (Ok (record { ra = 0x401008; fp = 0x7030 })))
 unfolding caller_opened leaf keeping
 keeping_differs e = let z : ◌≡◌ {A = ℕ} 1 0 = ap (λ o. (step_registers o).first) e in omega arith
 
@@ -296,7 +295,7 @@ loose_differs order e = let z : ◌≡◌ {A = ℕ} 0 28 = ap step_number e in o
 -- ---- "The last call of a function is blamed on its neighbour.": the PC asked by another rule
 
 -- the step by what is asked, and ours
-step_by : (Registers → Asked) → Shape → (ℕ → Finding) → List ℕ → Process → Registers → Step
+step_by : (Registers → Option ℕ) → Shape → (ℕ → Finding) → List ℕ → Process → Registers → Step
 step_by asked shape look stack process registers = from_finding shape stack process registers (look_at look (asked registers))
 
 our_asked : (shape : Shape) (look : ℕ → Finding) (stack : List ℕ) (process : Process) (registers : Registers)
@@ -305,12 +304,12 @@ unfolding step_of step_by
 our_asked shape look stack process registers = refl
 
 -- by S loaded here
-number_by : (Registers → Asked) → Process → Registers → ℕ
+number_by : (Registers → Option ℕ) → Process → Registers → ℕ
 number_by asked process registers = step_number (step_by asked (shape_of section_s) (look_in section_s process.section) stack process registers)
 
 -- document 01's: PC itself, with the mark and without. Just behind S's first function there is then none
-itself : Registers → Asked
-itself registers = At registers.pc
+itself : Registers → Option ℕ
+itself registers = Some registers.pc
 
 behind : Registers
 behind = record { pc = 0x401020; sp = 0x7000; fp = 0x7030; lr = 0; first = 0 }
@@ -320,7 +319,7 @@ unfolding caller_opened section_s stack loaded behind step_by number_by itself
 itself_differs e = let z : ◌≡◌ {A = ℕ} 21 0 = e in omega arith
 
 -- PC minus 1, with the mark and without. At the first byte of S's second function there is then none
-always_before : Registers → Asked
+always_before : Registers → Option ℕ
 always_before registers = just_before registers.pc
 
 always_differs : ¬ (number_by always_before loaded (at_pc_lem 0x401040) ≡ number_by asked_of loaded (at_pc_lem 0x401040))
@@ -328,8 +327,8 @@ unfolding caller_opened section_s stack loaded at_pc_lem step_by number_by alway
 always_differs e = let z : ◌≡◌ {A = ℕ} 21 0 = e in omega arith
 
 -- PC minus 1 wrapped to 64 bits, with S loaded so that its first function ends at 2^64
-wrapping : Registers → Asked
-wrapping registers = At ((registers.pc + (2 ^ 64 - 1)) % 2 ^ 64)
+wrapping : Registers → Option ℕ
+wrapping registers = Some ((registers.pc + (2 ^ 64 - 1)) % 2 ^ 64)
 
 at_zero : Registers
 at_zero = record { pc = 0; sp = 0x7000; fp = 0x7030; lr = 0; first = 0 }
@@ -342,12 +341,11 @@ unfolding caller_opened section_s stack at_the_top at_zero step_by number_by wra
 wrapping_differs e = let z : ◌≡◌ {A = ℕ} 0 21 = e in omega arith
 
 -- RA minus 1 written: "The RA written stays as read."
-lowering : Registers → ℕ → Values → Step
-lowering registers cfa NoRa = Refused registers 28
-lowering registers cfa NoFp = Refused registers 28
-lowering registers cfa (Both ra fp) = Caller (record { pc = ra - 1; sp = caller_sp cfa; fp = fp; lr = registers.lr; first = 0 })
+lowering : Registers → ℕ → Result Values Needed → Step
+lowering registers cfa (Err word) = Refused registers 28
+lowering registers cfa (Ok values) = Caller (record { pc = values.ra - 1; sp = caller_sp cfa; fp = values.fp; lr = registers.lr; first = 0 })
 
-lowering_differs : ¬ (lowering (leaf 1) 0x7000 (Both 0x401008 0x7030) ≡ with_values (leaf 1) 0 0x7000 (Both 0x401008 0x7030))
+lowering_differs : ¬ (lowering (leaf 1) 0x7000 (Ok (record { ra = 0x401008; fp = 0x7030 })) ≡ with_values (leaf 1) 0 0x7000 (Ok (record { ra = 0x401008; fp = 0x7030 })))
 unfolding caller_opened leaf lowering
 lowering_differs e = let z : ◌≡◌ {A = ℕ} 0x401007 0x401008 = ap (λ o. (step_registers o).pc) e in omega arith
 
@@ -411,7 +409,7 @@ unfolding caller_opened masked signed_leaf sealed
 all_cleared order = refl
 
 -- the step by which bits are cleared, what is handed back, and when it is 24; and ours
-signed_by : (Shape → Row → Process → ℕ) → (Registers → ℕ → ℕ → Values → Step) → (Shape → Row → Process → Bool)
+signed_by : (Shape → Row → Process → ℕ) → (Registers → ℕ → ℕ → Result Values Needed → Step) → (Shape → Row → Process → Bool)
     → Shape → List ℕ → Process → Registers → Row → ℕ → Step
 signed_by mask handed refused shape stack process registers row cfa =
     elim (refused shape row process) [
@@ -430,10 +428,10 @@ unfolding from_row from_cfa from_spots unless_maskless with_cfa signed_by
 our_24 shape stack process registers row cfa is = rw is
 
 -- what is handed back of a leaf that has signed LR, at CFA = SP, and of a frame at CFA = SP + 16
-leaf_by : (Shape → Row → Process → ℕ) → (Registers → ℕ → ℕ → Values → Step) → (Shape → Row → Process → Bool) → Row → Step
+leaf_by : (Shape → Row → Process → ℕ) → (Registers → ℕ → ℕ → Result Values Needed → Step) → (Shape → Row → Process → Bool) → Row → Step
 leaf_by mask handed refused row = signed_by mask handed refused (aarch64_shape Little) sealed_stack (masked usual) (signed_leaf 1) row 0x7000
 
-frame_by : (Shape → Row → Process → ℕ) → (Registers → ℕ → ℕ → Values → Step) → (Shape → Row → Process → Bool) → Shape → Step
+frame_by : (Shape → Row → Process → ℕ) → (Registers → ℕ → ℕ → Result Values Needed → Step) → (Shape → Row → Process → Bool) → Shape → Step
 frame_by mask handed refused shape = signed_by mask handed refused shape sealed_stack (masked usual) (signed_leaf 0) sealed_saved 0x7010
 
 -- clearing where the row is not signed
@@ -465,11 +463,10 @@ unfolding caller_opened masked usual signed_leaf sealed_stack sealed signed_by l
 lr_kept_differs e = let z : ◌≡◌ {A = ℕ} 0x0035000000401008 0x401008 = ap (λ o. (step_registers o).pc) e in omega arith
 
 -- FP cleared too
-clearing_fp : Registers → ℕ → ℕ → Values → Step
-clearing_fp registers mask cfa NoRa = Refused registers 28
-clearing_fp registers mask cfa NoFp = Refused registers 28
-clearing_fp registers mask cfa (Both ra fp) =
-    Caller (record { pc = clear mask ra; sp = caller_sp cfa; fp = clear mask fp; lr = registers.lr; first = 0 })
+clearing_fp : Registers → ℕ → ℕ → Result Values Needed → Step
+clearing_fp registers mask cfa (Err word) = Refused registers 28
+clearing_fp registers mask cfa (Ok values) =
+    Caller (record { pc = clear mask values.ra; sp = caller_sp cfa; fp = clear mask values.fp; lr = registers.lr; first = 0 })
 
 clearing_fp_differs : ¬ (frame_by mask_of clearing_fp is_maskless (aarch64_shape Little) ≡ frame_by mask_of with_values is_maskless (aarch64_shape Little))
 unfolding caller_opened masked usual signed_leaf sealed_saved sealed_stack signed_by frame_by clearing_fp

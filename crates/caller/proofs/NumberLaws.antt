@@ -7,6 +7,7 @@ use mathlib.Core.Logic.{◌⊎◌, inl, inr, ◌↔◌, ⊎_elim}
 use Prim.Native.Nat.{ℕ, ◌-◌, ◌≤◌}
 use native.Mathlib.Omega.{arith}
 use lib.ListN.{get_or}
+use Rattle.std.specs.Prelude.{Option, Some, None, Result, Ok, Err}
 use Rattle.numbers.specs.Computed.Address.{in_memory}
 use Rattle.section.specs.declared.row.Row.{Row}
 use Rattle.section.specs.declared.shape.Shape.{Shape}
@@ -24,7 +25,7 @@ use Rattle.caller.specs.Signature.{mask_of}
 use Rattle.caller.specs.Computed.Caller.{is_maskless, is_low, is_lost, spot_of, values_of, with_finding, unless_maskless, with_cfa, unless_low, unless_lost, with_values, from_spots, from_cfa, from_row, from_finding, look_at, step_of, step_in}
 use Rattle.caller.specs.declared.place.Spot.{Spot}
 use Rattle.caller.specs.declared.place.Values.{Values}
-use Rattle.caller.specs.declared.place.Values.TheVariants.{Both, NoRa, NoFp}
+use Rattle.caller.specs.declared.place.Needed.{Needed}
 use Rattle.caller.specs.declared.registers.Registers.{Registers}
 use Rattle.caller.specs.declared.registers.Step.{Step}
 use Rattle.caller.specs.declared.registers.Step.TheVariants.{Caller, Unsound, Refused}
@@ -146,11 +147,10 @@ HandedOn old (Unsound registers number index) = Unit {0}
 HandedOn old (Refused registers number) = Unit {0}
 
 module _ (shape : Shape) (stack : List ℕ) (process : Process) (registers : Registers) where
-  values-handed : (mask cfa : ℕ) (values : Values) → HandedOn registers (with_values registers mask cfa values)
+  values-handed : (mask cfa : ℕ) (values : Result Values Needed) → HandedOn registers (with_values registers mask cfa values)
   unfolding with_values
-  values-handed mask cfa NoRa = tt
-  values-handed mask cfa NoFp = tt
-  values-handed mask cfa (Both ra fp) = (refl, refl)
+  values-handed mask cfa (Err word) = tt
+  values-handed mask cfa (Ok values) = (refl, refl)
 
   spots-handed : (mask cfa : ℕ) (ra fp : Spot) → HandedOn registers (from_spots shape stack process registers mask cfa ra fp)
   unfolding from_spots unless_lost

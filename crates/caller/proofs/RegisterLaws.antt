@@ -7,12 +7,12 @@ use mathlib.Core.Bool.{Bool, true, false, not, ◌&&◌, ◌||◌}
 use mathlib.Core.Path.{◌≡◌, refl, ◌∙◌, ap}
 use Prim.Native.Nat.{ℕ, zero, suc, ◌-◌, ◌<◌, ◌≤◌}
 use lib.Dec.{eqb, ltb, leb}
+use Rattle.std.specs.Prelude.{Option, Some, None}
 use Rattle.numbers.specs.Computed.Address.{in_memory, address_of}
 use Rattle.section.specs.declared.row.Row.{Row}
 use Rattle.lookup.proofs.CoveringLaws.{by_value}
 use Rattle.caller.specs.Frame.{has_mark, just_before, asked_of, base_value, cfa_of}
 use Rattle.caller.specs.Computed.Caller.{is_low}
-use Rattle.caller.specs.declared.registers.Asked.TheVariants.{At, Nowhere}
 use Rattle.caller.specs.declared.registers.Registers.{Registers}
 
 pub twice_not : (test : Bool) → test ≡ not (not test)
@@ -52,22 +52,22 @@ module _ (registers : Registers) (sp : ℕ) where
 
 -- ---- the PC asked
 
-pub none_before : (pc : ℕ) → pc ≡ 0 → Nowhere ≡ just_before pc
+pub none_before : (pc : ℕ) → pc ≡ 0 → None ≡ just_before pc
 unfolding just_before
 none_before zero e = refl
 none_before (suc pc) e = absurd (omega arith)
 
-pub one_before : (pc : ℕ) → ¬ (pc ≡ 0) → At (pc - 1) ≡ just_before pc
+pub one_before : (pc : ℕ) → ¬ (pc ≡ 0) → Some (pc - 1) ≡ just_before pc
 unfolding just_before
 one_before zero e = absurd (e refl)
-one_before (suc pc) e = ap At (omega arith)
+one_before (suc pc) e = ap Some (omega arith)
 
 module _ (registers : Registers) where
   pub asked_unmarked : registers.first ≡ 0 → just_before registers.pc ≡ asked_of registers
   unfolding asked_of has_mark
   asked_unmarked none = rw (eq-eqb _ _ none, asked_of)
 
-  pub asked_marked : ¬ (registers.first ≡ 0) → At registers.pc ≡ asked_of registers
+  pub asked_marked : ¬ (registers.first ≡ 0) → Some registers.pc ≡ asked_of registers
   unfolding asked_of has_mark
   asked_marked set = rw (ne_eqb _ _ set, asked_of)
 

@@ -8,6 +8,7 @@ use mathlib.Core.Logic.Iff
 use mathlib.Core.Logic.{◌↔◌}
 use Prim.Native.Nat.{ℕ}
 use native.Mathlib.Omega.{arith}
+use Rattle.std.specs.Prelude.{Option, Some, None}
 use Rattle.numbers.specs.Computed.Address.{in_memory}
 use Rattle.section.specs.Header.{layout_of}
 use Rattle.section.specs.Meaning.{shape_of}
@@ -28,8 +29,6 @@ use Rattle.caller.specs.Frame.{asked_of, cfa_of}
 use Rattle.caller.specs.Numbers.{step_number}
 use Rattle.caller.specs.Signature.{Signed, is_signed, mask_of, clear, with_mask, Cleared, OnlySignature}
 use Rattle.caller.specs.Computed.Caller.{is_maskless, if_fits, step_after, look_at, with_finding, unless_maskless, with_cfa, from_spots, from_cfa, from_row, from_finding, step_of, step_in}
-use Rattle.caller.specs.declared.registers.Asked.{Asked}
-use Rattle.caller.specs.declared.registers.Asked.TheVariants.{At, Nowhere}
 use Rattle.caller.specs.declared.registers.Process.{Process}
 use Rattle.caller.specs.declared.registers.Registers.{Registers}
 use Rattle.caller.proofs.Exactly.{number_24_exactly_when}
@@ -69,15 +68,15 @@ amd64_unsigned s machine row signed = amd64_not (rw machine at ((signs_set (layo
 module _ (s stack : List ℕ) (process : Process) (registers : Registers) where
   -- what is looked up on an accepted section is not signed, or there is nothing to look up
   module _ (unsigned : (row : Row) → RowFound s stack process registers row → ¬ Signed (shape_of s) row) (mask : ℕ) where
-    asked-unseen : WindowFits stack process → Obeys s → (asked : Asked) → asked_of registers ≡ asked
+    asked-unseen : WindowFits stack process → Obeys s → (asked : Option ℕ) → asked_of registers ≡ asked
         → from_finding (shape_of s) stack (with_mask process mask) registers (look_at (look_in s process.section) asked)
         ≡ from_finding (shape_of s) stack process registers (look_at (look_in s process.section) asked)
     unfolding look_at
-    asked-unseen fits obeys Nowhere is = finding-unseen (shape_of s) stack process registers mask (refuses 21) (λ row k e. absurd (other e))
+    asked-unseen fits obeys None is = finding-unseen (shape_of s) stack process registers mask (refuses 21) (λ row k e. absurd (other e))
       where
         other : {row : Row} {k : ℕ} → ¬ (◌≡◌ {A = Finding} (refuses 21) (finds row k))
         other e = let z : ◌≡◌ {A = ℕ} 0 1 = cc in omega arith
-    asked-unseen fits obeys (At pc) is =
+    asked-unseen fits obeys (Some pc) is =
         finding-unseen (shape_of s) stack process registers mask (look_in s process.section pc) λ row k e.
         let (i, found) = (finds_exactly_when s obeys process.section pc row k).0 e in
         unsigned row (record { fits = fits; obeys = obeys; pc = pc; asked = is; holds = (i, k, found) })

@@ -7,6 +7,7 @@ use mathlib.Core.List.{List}
 use mathlib.Core.Logic.{inl, inr, ◌↔◌, ⊎_elim}
 use Prim.Native.Nat.{ℕ}
 use native.Mathlib.Omega.{arith}
+use Rattle.std.specs.Prelude.{Option, Some, None}
 use Rattle.numbers.specs.Computed.Address.{in_memory}
 use Rattle.section.specs.Meaning.{shape_of}
 use Rattle.section.specs.declared.row.Row.{Row}
@@ -25,8 +26,6 @@ use Rattle.caller.specs.Frame.{asked_of, cfa_of, caller_sp}
 use Rattle.caller.specs.Numbers.{Refusal, unfound, signed, cfa_outside, cfa_low, ra_lost, word_outside, number_of_refusal, window, number_of_step_cause}
 use Rattle.caller.specs.Signature.{mask_of, clear}
 use Rattle.caller.specs.Computed.Caller.{spot_of, value_of, both_of, values_of, if_fits, step_after, look_at, with_finding, unless_maskless, with_cfa, unless_low, unless_lost, with_values, from_spots, from_cfa, from_row, from_finding, step_of, step_in}
-use Rattle.caller.specs.declared.registers.Asked.{Asked}
-use Rattle.caller.specs.declared.registers.Asked.TheVariants.{At, Nowhere}
 use Rattle.caller.specs.declared.registers.Registers.{Registers}
 use Rattle.caller.specs.declared.registers.Step.{Step}
 use Rattle.caller.specs.declared.registers.Step.TheVariants.{Caller, Unsound, Refused}
@@ -67,7 +66,7 @@ module _ (s stack : List ℕ) (process : Process) (registers : Registers) where
       fits-given fits ∙ rw ((given_exactly_when s rule index).1 given) (ap (λ n. Unsound registers n index) (sym is))
 
   -- 1 to 15 are past too, and this is what the lookup finds
-  found-given : (obeys : Obeys s) → WindowFits stack process → {pc : ℕ} → asked_of registers ≡ At pc → {found : Finding}
+  found-given : (obeys : Obeys s) → WindowFits stack process → {pc : ℕ} → asked_of registers ≡ Some pc → {found : Finding}
       → look_in s process.section pc ≡ found
       → answer ≡ from_finding (shape_of s) stack process registers found
   unfolding step_after step_of look_at
@@ -233,9 +232,9 @@ module _ (s stack : List ℕ) (process : Process) (registers : Registers) where
       (memory_decided (cfa_of registers row))
 
   -- by the PC asked
-  asked-decided : WindowFits stack process → Obeys s → (asked : Asked) → asked_of registers ≡ asked → SomeCase
-  asked-decided fits obeys Nowhere e = some-refusal (unfound no_function) (inr (record { fits = fits; obeys = obeys; asked = e }))
-  asked-decided fits obeys (At pc) e =
+  asked-decided : WindowFits stack process → Obeys s → (asked : Option ℕ) → asked_of registers ≡ asked → SomeCase
+  asked-decided fits obeys None e = some-refusal (unfound no_function) (inr (record { fits = fits; obeys = obeys; asked = e }))
+  asked-decided fits obeys (Some pc) e =
       ⊎_elim
       (λ found.
       let (row, i, k, case) = found in

@@ -11,6 +11,7 @@ use lib.IntN.{ℤ, pos, negsuc, ◌+ℤ◌}
 use lib.ListN.{length}
 use lib.Signed.{◌≤ℤ◌, ◌<ℤ◌, le_z_yes, lt_z_yes}
 use borrow.Author.Tests.{ltb-true, ltb-false, lt-ltb, le-ltb, le-leb}
+use Rattle.std.specs.Prelude.{Option, Some, None}
 use Rattle.numbers.specs.Computed.Address.{in_memory, address_of, window_fits, wholly, word_of}
 use Rattle.numbers.specs.declared.field.Order.{Order}
 use Rattle.numbers.proofs.AddressLaws.{word_inside}

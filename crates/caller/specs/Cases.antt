@@ -1,7 +1,7 @@
 -- When each answer of a step is given (SPECIFICATION 5.2 to 5.14), as plain propositions over any section, stack window and
 -- registers, in document 01's words. A rule of 24 to 41 stands here as what breaks it; nothing says how a row is looked for or a
 -- word is read.
-use Rattle.std.specs.Prelude.{◌≡◌, List, ◌⊎◌, ℕ, ◌+◌, ◌-◌, ◌^◌, ◌≤◌, ◌<◌, ℤ, pos, ◌+ℤ◌, length, ◌≤ℤ◌, ◌<ℤ◌}
+use Rattle.std.specs.Prelude.{◌≡◌, List, ◌⊎◌, ℕ, ◌+◌, ◌-◌, ◌^◌, ◌≤◌, ◌<◌, ℤ, pos, ◌+ℤ◌, length, ◌≤ℤ◌, ◌<ℤ◌, Some, None}
 use Rattle.numbers.specs.Field.{field_of}
 use Rattle.numbers.specs.Start.{distance}
 use Rattle.numbers.specs.declared.field.Order.{Order}
@@ -20,7 +20,6 @@ use Rattle.lookup.specs.Numbers.{no_function, dispute, no_row}
 use Rattle.caller.specs.Frame.{asked_of, cfa_of, caller_sp}
 use Rattle.caller.specs.Numbers.{Refusal, unfound, signed, cfa_outside, cfa_low, ra_lost, word_outside, number_of_refusal, StepCause, window, unsound, refused, number_of_step_cause}
 use Rattle.caller.specs.Signature.{Signed, mask_of, clear}
-use Rattle.caller.specs.declared.registers.Asked.TheVariants.{At, Nowhere}
 use Rattle.caller.specs.declared.registers.Registers.{Registers}
 use Rattle.caller.specs.declared.registers.Step.{Step}
 use Rattle.caller.specs.declared.registers.Step.TheVariants.{Caller, Unsound, Refused}
@@ -113,14 +112,14 @@ module _ (s stack : List ℕ) (process : Process) (registers : Registers) where
     pub fits : WindowFits stack process
     pub obeys : Obeys s
     pub pc : ℕ
-    pub asked : asked_of registers ≡ At pc
+    pub asked : asked_of registers ≡ Some pc
     pub holds : Holds (distance process.section pc)
 
   -- "PC 0 without the mark is answered 21, after the section checks, with no lookup made": they pass, and there is no PC to ask
   pub record NothingAsked : Type 0 where
     pub fits : WindowFits stack process
     pub obeys : Obeys s
-    pub asked : asked_of registers ≡ Nowhere
+    pub asked : asked_of registers ≡ None
 
   -- the lookup finds this row: of some function i, with some number k
   abbrev pub RowFound : Row → Type 0

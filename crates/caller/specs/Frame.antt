@@ -1,11 +1,9 @@
 -- What a frame's registers say by themselves (SPECIFICATION 5.1, 5.6, 5.11 and 5.13): the mark, the PC that is asked, CFA by a row, and
 -- the caller's SP by CFA.
-use Rattle.std.specs.Prelude.{ℕ, zero, suc, Bool, true, false, not, eqb, ℤ, pos, ◌+ℤ◌}
+use Rattle.std.specs.Prelude.{ℕ, zero, suc, Bool, true, false, not, eqb, ℤ, pos, ◌+ℤ◌, Option, Some, None}
 use Rattle.section.specs.declared.row.Base.{Base}
 use Rattle.section.specs.declared.row.Base.TheVariants.{Fp, Sp}
 use Rattle.section.specs.declared.row.Row.{Row}
-use Rattle.caller.specs.declared.registers.Asked.{Asked}
-use Rattle.caller.specs.declared.registers.Asked.TheVariants.{At, Nowhere}
 use Rattle.caller.specs.declared.registers.Registers.{Registers}
 
 -- "a first-frame mark": any number but 0
@@ -13,13 +11,13 @@ unfoldable pub has_mark : Registers → Bool
 has_mark registers = not (eqb registers.first 0)
 
 -- "PC minus 1", which is inside the call that the return address PC stands behind; before PC 0 there is none
-unfoldable pub just_before : ℕ → Asked
-just_before zero = Nowhere
-just_before (suc pc) = At pc
+unfoldable pub just_before : ℕ → Option ℕ
+just_before zero = None
+just_before (suc pc) = Some pc
 
 -- request 03, "without the first-frame mark, look up PC minus 1; with it, PC itself": the PC asked, the one that is looked up
-unfoldable pub asked_of : Registers → Asked
-asked_of registers = elim (has_mark registers) [ true ↦ At registers.pc | false ↦ just_before registers.pc ]
+unfoldable pub asked_of : Registers → Option ℕ
+asked_of registers = elim (has_mark registers) [ true ↦ Some registers.pc | false ↦ just_before registers.pc ]
 
 -- "CFA is base plus first offset.", an exact number
 unfoldable pub base_value : Registers → Base → ℕ

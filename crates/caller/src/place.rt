@@ -3,7 +3,7 @@ ghost use Rattle.std.specs.Prelude.{◌≡◌};
 ghost use Rattle.caller.specs.Computed.Caller.{spot_at, spot_of, is_lost, value_of, values_of};
 
 use crate::registers::Registers;
-use numbers::address::{Address, Word, address_of, word_at};
+use numbers::address::{address_of, word_at};
 use numbers::field::Order;
 use section::row::Place;
 
@@ -15,21 +15,26 @@ pub enum Spot {
     Beyond,
 }
 
-// RA and FP of the caller, or which of the two words is outside the stack window.
+// RA and FP of the caller.
 #[derive(Clone, Copy)]
-pub enum Values {
-    // RA, then FP.
-    Both(u64, u64),
-    NoRa,
-    NoFp,
+pub struct Values {
+    pub ra: u64,
+    pub fp: u64,
 }
 
-fn spot_at(address: Address) -> Spot
+// Which of the two words that a caller is read from.
+#[derive(Clone, Copy)]
+pub enum Needed {
+    Ra,
+    Fp,
+}
+
+fn spot_at(address: Option<u64>) -> Spot
     ensures { result ≡ spot_at address }
 {
     match address {
-        Address::At(at) => Spot::Saved(at),
-        Address::Outside => Spot::Beyond,
+        Some(at) => Spot::Saved(at),
+        None => Spot::Beyond,
     }
 }
 
@@ -49,23 +54,23 @@ pub fn is_lost(registers: Registers, ra: Spot) -> bool
 {
     match ra {
         Spot::Kept => registers.first == 0,
-        Spot::Saved(at) => false,
+        Spot::Saved(_) => false,
         Spot::Beyond => false,
     }
 }
 
 // What stands at a place: the register's value, or the word of the stack.
-pub fn value_at(stack: &[u8], lies: u64, order: Order, register: u64, spot: Spot) -> Word
+pub fn value_at(stack: &[u8], lies: u64, order: Order, register: u64, spot: Spot) -> Option<u64>
     ensures { result ≡ value_of stack.now lies order register spot }
 {
     match spot {
-        Spot::Kept => Word::Is(register),
+        Spot::Kept => Some(register),
         Spot::Saved(at) => word_at(stack, lies, at, order),
-        Spot::Beyond => Word::Outside,
+        Spot::Beyond => None,
     }
 }
 
-// RA's word is tried before FP's.
+// RA's word is tried before FP's; the error is the word that is outside the stack window.
 pub fn values_at(
     stack: &[u8],
     lies: u64,
@@ -73,14 +78,17 @@ pub fn values_at(
     registers: Registers,
     ra: Spot,
     fp: Spot,
-) -> Values
+) -> Result<Values, Needed>
     ensures { result ≡ values_of stack.now lies order registers ra fp }
 {
-    let Word::Is(first) = value_at(stack, lies, order, registers.lr, ra) else {
-        return Values::NoRa;
+    let Some(first) = value_at(stack, lies, order, registers.lr, ra) else {
+        return Err(Needed::Ra);
     };
-    let Word::Is(second) = value_at(stack, lies, order, registers.fp, fp) else {
-        return Values::NoFp;
+    let Some(second) = value_at(stack, lies, order, registers.fp, fp) else {
+        return Err(Needed::Fp);
     };
-    Values::Both(first, second)
+    Ok(Values {
+        ra: first,
+        fp: second,
+    })
 }

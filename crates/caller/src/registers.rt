@@ -4,7 +4,7 @@ ghost use Rattle.numbers.specs.Computed.Address.{in_memory};
 ghost use Rattle.caller.specs.Frame.{just_before, asked_of, base_value, cfa_of, caller_sp, cfa_of_sp};
 ghost use Rattle.caller.specs.Computed.Caller.{is_low};
 
-use numbers::address::{Address, address_of};
+use numbers::address::address_of;
 use section::row::{Base, Row};
 
 // Five numbers, all of them any value. The first-frame mark is set where `first` is not 0.
@@ -28,13 +28,6 @@ pub struct Process {
     pub mask: u64,
 }
 
-// The PC that is looked up, or that there is none to look up.
-#[derive(Clone, Copy)]
-pub enum Asked {
-    At(u64),
-    Nowhere,
-}
-
 // What a step answers. The largest field stands first, so that it is not moved about.
 #[derive(Clone, Copy)]
 pub enum Step {
@@ -55,24 +48,25 @@ pub enum Step {
 
 // One before a PC. A return address stands behind its call, and behind the function where the call is the function's last instruction;
 // one before it is inside both. Before 0 there is nothing.
-fn just_before(pc: u64) -> Asked
+fn just_before(pc: u64) -> Option<u64>
     ensures { result ≡ just_before pc }
 {
     if pc == 0 {
-        return Asked::Nowhere;
+        return None;
     }
-    Asked::At(pc - 1)
+    Some(pc - 1)
 }
 
-// The crashed function's own PC is at an instruction, every other PC is a return address: the mark tells them apart.
-pub fn asked_of(registers: Registers) -> Asked
+// The PC that is looked up, if there is one. The crashed function's own PC is at an instruction, every other PC is a return address: the
+// mark tells them apart.
+pub fn asked_of(registers: Registers) -> Option<u64>
     ensures { result ≡ asked_of registers }
 {
     let before = just_before(registers.pc);
     if registers.first == 0 {
         return before;
     }
-    Asked::At(registers.pc)
+    Some(registers.pc)
 }
 
 pub fn base_value(registers: Registers, base: Base) -> u64
@@ -85,7 +79,7 @@ pub fn base_value(registers: Registers, base: Base) -> u64
 }
 
 // CFA, where that is an address at all.
-pub fn cfa_of(registers: Registers, row: Row) -> Address
+pub fn cfa_of(registers: Registers, row: Row) -> Option<u64>
     ensures { result ≡ in_memory (cfa_of registers row) }
 {
     let base = row.base;

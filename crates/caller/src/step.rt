@@ -7,37 +7,33 @@ ghost use Rattle.lookup.specs.Computed.Answers.{look_in};
 ghost use Rattle.lookup.specs.Inner.Requires.{AcceptedOf};
 ghost use Rattle.caller.specs.Computed.Caller.{with_values, from_spots, from_cfa, from_row, from_finding, step_of, step_in};
 
-use crate::place::{Spot, Values, is_lost, spot_of, values_at};
-use crate::registers::{Asked, Process, Registers, Step, asked_of, caller_sp, cfa_of, is_low};
+use crate::place::{Needed, Spot, Values, is_lost, spot_of, values_at};
+use crate::registers::{Process, Registers, Step, asked_of, caller_sp, cfa_of, is_low};
 use crate::signature::{clear, is_maskless, mask_of};
 use accept::section_check::check;
 use accept::verdict::Verdict;
 use lookup::answer::Outcome;
 use lookup::look::look;
-use numbers::address::{Address, window_fits};
+use numbers::address::window_fits;
 use section::header::{Layout, layout_at};
 use section::row::Row;
 use section::shape::{Shape, shape_of};
 
 impl Registers {
     // 28, or the caller: its PC is RA without the bits of the mask, wherever RA came from.
-    fn with_values(self, mask: u64, cfa: u64, values: Values) -> Step
+    fn with_values(self, mask: u64, cfa: u64, values: Result<Values, Needed>) -> Step
         ensures { result ≡ with_values self mask cfa values }
     {
         let lr = self.lr;
         match values {
-            Values::NoRa => Step::Refused {
+            Err(_) => Step::Refused {
                 old: self,
                 number: 28,
             },
-            Values::NoFp => Step::Refused {
-                old: self,
-                number: 28,
-            },
-            Values::Both(ra, fp) => Step::Caller(Registers {
-                pc: clear(mask, ra),
+            Ok(values) => Step::Caller(Registers {
+                pc: clear(mask, values.ra),
                 sp: caller_sp(cfa),
-                fp: fp,
+                fp: values.fp,
                 lr: lr,
                 first: 0,
             }),
@@ -106,11 +102,11 @@ impl Registers {
             };
         }
         match cfa_of(self, row) {
-            Address::Outside => Step::Refused {
+            None => Step::Refused {
                 old: self,
                 number: 25,
             },
-            Address::At(cfa) => self.from_cfa(shape, stack, process, row, cfa),
+            Some(cfa) => self.from_cfa(shape, stack, process, row, cfa),
         }
     }
 
@@ -154,7 +150,7 @@ impl Registers {
         requires { AcceptedOf section.now layout }
         ensures { result ≡ step_of (shape_of section.now) (look_in section.now process.section) stack.now process self }
     {
-        let Asked::At(pc) = asked_of(self) else {
+        let Some(pc) = asked_of(self) else {
             return Step::Refused {
                 old: self,
                 number: 21,

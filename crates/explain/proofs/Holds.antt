@@ -10,6 +10,7 @@ use lib.Dec.{ltb}
 use lib.IntN.{ℤ}
 use lib.ListN.{length}
 use borrow.Author.Tests.{ltb-true, ltb-false}
+use Rattle.std.specs.Prelude.{Option, Some, None}
 use Rattle.numbers.specs.Start.{distance}
 use Rattle.numbers.specs.Computed.Address.{in_memory, window_fits}
 use Rattle.numbers.specs.declared.field.Order.{Order}
@@ -39,8 +40,6 @@ use Rattle.caller.specs.Cases.{WindowFits, ValueIs, Outside, Rule24, Rule25, Cfa
 use Rattle.caller.specs.Frame.{asked_of, base_value, cfa_of, caller_sp}
 use Rattle.caller.specs.Signature.{mask_of}
 use Rattle.caller.specs.Computed.Caller.{is_maskless, is_low, spot_of, is_lost}
-use Rattle.caller.specs.declared.registers.Asked.{Asked}
-use Rattle.caller.specs.declared.registers.Asked.TheVariants.{At, Nowhere}
 use Rattle.caller.specs.declared.registers.Process.{Process}
 use Rattle.caller.specs.declared.registers.Registers.{Registers}
 use Rattle.caller.proofs.Asked.{asked_exactly_when, nowhere_exactly_when}
@@ -315,11 +314,11 @@ module _ (s stack : List ℕ) (process : Process) (registers : Registers) where
 
   module _ (fits : WindowFits stack process) (accepted : verdict s ≡ verdict.Accepted) where
     -- 21 at PC 0 without the mark
-    pub nothing_asked_holds : asked_of registers ≡ Nowhere → WhyNothingAsked s stack process registers
+    pub nothing_asked_holds : asked_of registers ≡ None → WhyNothingAsked s stack process registers
     nothing_asked_holds e =
         record { fits = fits; obeys = (accepted_exactly_when s).0 accepted; nothing = (nowhere_exactly_when registers).0 e }
 
-    module _ (pc : ℕ) (e : asked_of registers ≡ At pc) where
+    module _ (pc : ℕ) (e : asked_of registers ≡ Some pc) where
       -- 21 to 23, and the row found, at the PC looked up
       pub at_holds : {P : ℤ → Type 0} → P (distance process.section pc) → WhyAt s stack process registers pc P
       at_holds h = record { fits = fits; obeys = (accepted_exactly_when s).0 accepted; asked = (asked_exactly_when registers pc).0 e; holds = h }
@@ -330,10 +329,10 @@ module _ (s stack : List ℕ) (process : Process) (registers : Registers) where
       by-looked coverers (looked.NotFound why) h = at_holds h
       by-looked coverers (looked.Found found) h = (at_holds h, row-holds s stack process registers found.row fits)
 
-    asked-holds : (asked : Asked) → asked_of registers ≡ asked → WhyStep s stack process registers (asked_why s stack process registers asked)
+    asked-holds : (asked : Option ℕ) → asked_of registers ≡ asked → WhyStep s stack process registers (asked_why s stack process registers asked)
     unfolding asked_why unlooked_why by_looked
-    asked-holds Nowhere e = nothing_asked_holds e
-    asked-holds (At pc) e = by-looked pc e _ _ (looked_holds s accepted (distance process.section pc))
+    asked-holds None e = nothing_asked_holds e
+    asked-holds (Some pc) e = by-looked pc e _ _ (looked_holds s accepted (distance process.section pc))
 
   -- every case of a step at once
   pub step_explained_holds : WhyStep s stack process registers (step_why s stack process registers)

@@ -3,6 +3,7 @@
 use mathlib.Core.Path.{◌≡◌, refl, sym, ◌∙◌, ap, subst}
 use mathlib.Core.List.{List}
 use Prim.Native.Nat.{ℕ}
+use Rattle.std.specs.Prelude.{Option, Some, None}
 use Rattle.numbers.specs.Start.{distance}
 use Rattle.section.specs.Meaning.{shape_of}
 use Rattle.section.proofs.PartAgreement.{shape_agrees}
@@ -15,8 +16,6 @@ use Rattle.lookup.specs.Computed.Answers.{answer_after, lookup_of, look_in}
 use Rattle.lookup.proofs.AnswerAgreement.{answer_agrees}
 use Rattle.caller.specs.Frame.{asked_of}
 use Rattle.caller.specs.Computed.Caller.{look_at, step_after, step_of, step_in}
-use Rattle.caller.specs.declared.registers.Asked.{Asked}
-use Rattle.caller.specs.declared.registers.Asked.TheVariants.{At, Nowhere}
 use Rattle.caller.specs.declared.registers.Registers.{Registers}
 use Rattle.caller.specs.declared.registers.Process.{Process}
 use Rattle.caller.proofs.Asked.{nowhere_exactly_when, no_lookup}
@@ -33,21 +32,21 @@ module _ (s t : List ℕ) (accepted : verdict s ≡ Accepted) (also : verdict t 
       ap (λ answer. finding_of answer.outcome) (rw (accepted, also) at (answer_agrees s t accepted also address pc alike))
 
   -- by the PC asked; where there is none, no lookup is made in either
-  checked-step : (stack : List ℕ) (process : Process) (registers : Registers) (asked : Asked) → asked_of registers ≡ asked
-      → ((pc : ℕ) → asked_of registers ≡ At pc → LookAlike s t (distance process.section pc))
+  checked-step : (stack : List ℕ) (process : Process) (registers : Registers) (asked : Option ℕ) → asked_of registers ≡ asked
+      → ((pc : ℕ) → asked_of registers ≡ Some pc → LookAlike s t (distance process.section pc))
       → step_of (shape_of s) (look_in s process.section) stack process registers ≡ step_of (shape_of t) (look_in t process.section) stack process registers
   unfolding look_at
-  checked-step stack process registers Nowhere e alike =
+  checked-step stack process registers None e alike =
       let nothing = (nowhere_exactly_when registers).0 e in
       no_lookup registers nothing _ _ stack process ∙ sym (no_lookup registers nothing _ _ stack process)
-  checked-step stack process registers (At pc) e alike =
+  checked-step stack process registers (Some pc) e alike =
       let here = alike pc e in
       through_finding (shape_of s) (shape_of t) (look_in s process.section) (look_in t process.section) stack process registers
       (shape_agrees s t here.header)
       (rw e (one-finding process.section pc here))
 
   one-step : (stack : List ℕ) (process : Process) (registers : Registers)
-      → ((pc : ℕ) → asked_of registers ≡ At pc → LookAlike s t (distance process.section pc))
+      → ((pc : ℕ) → asked_of registers ≡ Some pc → LookAlike s t (distance process.section pc))
       → step_in s stack process registers ≡ step_in t stack process registers
   unfolding step_in step_after
   one-step stack process registers alike = rw (accepted, also, checked-step stack process registers (asked_of registers) refl alike)

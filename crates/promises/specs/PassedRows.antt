@@ -1,14 +1,13 @@
 -- Request 02: "Long functions are slow because the scan decodes all offsets of rows that don't match. Skip over them by their length.
 -- Every answer stays as it is." What is promised, as a predicate of any four calls: what they need not look at changes no answer. A check
 -- looks at no offset, and of the rows that a lookup passes it looks at none either.
-use Rattle.std.specs.Prelude.{◌≡◌, List, ℕ, set}
+use Rattle.std.specs.Prelude.{◌≡◌, List, ℕ, set, Some}
 use Rattle.numbers.specs.Start.{distance}
 use Rattle.section.specs.SectionS.{section_s}
 use Rattle.accept.specs.Tried.{CheckAlike}
 use Rattle.accept.specs.declared.verdict.Verdict.TheVariants.{Accepted}
 use Rattle.lookup.specs.Scanned.{LookAlike}
 use Rattle.caller.specs.Frame.{asked_of}
-use Rattle.caller.specs.declared.registers.Asked.TheVariants.{At}
 use Rattle.caller.specs.declared.registers.Registers.{Registers}
 use Rattle.caller.specs.declared.registers.Process.{Process}
 use Rattle.promises.specs.Calls.{Calls}
@@ -22,7 +21,7 @@ pub record PassesRows (calls : Calls) : Type 0 where
       → LookAlike s t (distance address pc) → calls.lookup s address pc ≡ calls.lookup t address pc
   -- the same caller, or refusal number with the old registers
   pub callers : (s t stack : List ℕ) → calls.check s ≡ Accepted → calls.check t ≡ Accepted → (process : Process) (registers : Registers)
-      → ((pc : ℕ) → asked_of registers ≡ At pc → LookAlike s t (distance process.section pc))
+      → ((pc : ℕ) → asked_of registers ≡ Some pc → LookAlike s t (distance process.section pc))
       → calls.step s stack process registers ≡ calls.step t stack process registers
 
 abbrev pub RowsPassed : Type 0

@@ -8,12 +8,12 @@ use mathlib.Core.Logic.{inl, inr, ◌↔◌, ⊎_elim}
 use Prim.Native.Nat.{ℕ, zero, suc, ◌-◌, ◌<◌}
 use native.Mathlib.Omega.{arith}
 use lib.ListN.{length}
+use Rattle.std.specs.Prelude.{Some, None}
 use Rattle.lookup.specs.Cases.{NoneCovers}
 use Rattle.lookup.specs.Numbers.{no_function, number_of_unfound}
 use Rattle.caller.specs.Cases.{LookedUp, CallerCase, OnRefusal}
 use Rattle.caller.specs.Frame.{asked_of}
 use Rattle.caller.specs.Numbers.{unfound, number_of_refusal}
-use Rattle.caller.specs.declared.registers.Asked.TheVariants.{At, Nowhere}
 use Rattle.caller.specs.declared.registers.Registers.{Registers}
 use Rattle.caller.specs.declared.registers.Process.{Process}
 use Rattle.caller.proofs.Asked.{asked_exactly_when, nowhere_exactly_when}
@@ -25,19 +25,19 @@ use Rattle.trace.specs.declared.answer.Frame.{Frame}
 use Rattle.trace.proofs.Exactly as trace
 
 -- "The walk starts with the mark set": its first step asks PC itself
-pub asked_first : (registers : Registers) → asked_of (with_mark registers) ≡ At registers.pc
+pub asked_first : (registers : Registers) → asked_of (with_mark registers) ≡ Some registers.pc
 unfolding with_mark
 asked_first registers = (asked_exactly_when (with_mark registers) registers.pc).1 (inl ((λ e. omega arith), refl))
 
 module _ (s stack : List ℕ) (process : Process) (registers : Registers) {frames : List Frame} (f : Follows (CallerCase s stack process) (with_mark registers) frames) where
   -- every later step, also one that is refused, asks its return address minus 1
-  pub asked_later : (k : ℕ) → k < length frames → ¬ ((f.at (suc k)).pc ≡ 0) → asked_of (f.at (suc k)) ≡ At ((f.at (suc k)).pc - 1)
+  pub asked_later : (k : ℕ) → k < length frames → ¬ ((f.at (suc k)).pc ≡ 0) → asked_of (f.at (suc k)) ≡ Some ((f.at (suc k)).pc - 1)
   asked_later k less far =
       let none = (f.steps k less).first_is in
       (asked_exactly_when (f.at (suc k)) _).1 (inr (none, omega (arith, far)))
 
   -- no step of a walk, from the first to the one that is refused, meets PC 0 without the mark: RA 0 has ended it with 30
-  pub never_nowhere : (k : ℕ) → NotOutermost k (f.at k) → ¬ (asked_of (f.at k) ≡ Nowhere)
+  pub never_nowhere : (k : ℕ) → NotOutermost k (f.at k) → ¬ (asked_of (f.at k) ≡ None)
   unfolding with_mark
   never_nowhere zero far e =
       let none = ((nowhere_exactly_when (f.at 0)).0 e).0 in

@@ -9,6 +9,7 @@ use Prim.Native.Nat.{ℕ, suc, ◌+◌, ◌-◌, ◌*◌, ◌<◌}
 use native.Mathlib.Nat.{eq-or-lt_of_le}
 use native.Mathlib.Omega.{arith}
 use lib.ListN.{length, get_or}
+use Rattle.std.specs.Prelude.{Some}
 use Rattle.section.specs.Header.{layout_of}
 use Rattle.section.specs.Meaning.{shape_of}
 use Rattle.section.specs.declared.row.Row.{Row}
@@ -24,7 +25,6 @@ use Rattle.caller.specs.Cases.{WindowFits, RowFound, CallerCase}
 use Rattle.caller.specs.Frame.{asked_of}
 use Rattle.caller.specs.Numbers.{signed, number_of_refusal}
 use Rattle.caller.specs.Signature.{Signed, mask_of, clear, with_mask, OnlySignature}
-use Rattle.caller.specs.declared.registers.Asked.TheVariants.{At}
 use Rattle.caller.specs.declared.registers.Process.{Process}
 use Rattle.caller.specs.declared.registers.Registers.{Registers}
 use Rattle.caller.proofs.Exactly.{step_of_checked}
@@ -67,11 +67,11 @@ module _ (s stack : List ℕ) (process : Process) (registers : Registers) (limit
 
   -- where it is not 0, the PC asked next is one below it
   pub asked_next : (k : ℕ) (lt : k < reply.answer.frames) → ¬ (clear (cleared k lt) (step k lt).ra ≡ 0)
-      → asked_of (at (suc k)) ≡ At (clear (cleared k lt) (step k lt).ra - 1)
+      → asked_of (at (suc k)) ≡ Some (clear (cleared k lt) (step k lt).ra - 1)
   asked_next k lt far =
       let less = rw (trace.frame_count s stack process registers limit old) at lt in
       asked_later s stack process registers (trace.frames_follow s stack process registers limit old) k less (λ e. far (sym (step k lt).pc_is ∙ e))
-      ∙ ap (λ pc. At (pc - 1)) (step k lt).pc_is
+      ∙ ap (λ pc. Some (pc - 1)) (step k lt).pc_is
 
   -- with mask 0 it is RA as it was read
   pub ra_as_read : process.mask ≡ 0 → (k : ℕ) (lt : k < reply.answer.frames) → get_or reply.words (3 * k + 1) 0 ≡ (step k lt).ra

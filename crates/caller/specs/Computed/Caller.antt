@@ -1,6 +1,6 @@
 -- Document 01, "One caller": the caller's registers from a row, the registers and the stack window, or the first refusal, in
 -- document 01's order. A section is known through `look` alone: what a lookup finds at a PC.
-use Rattle.std.specs.Prelude.{ℕ, Bool, true, false, not, ◌&&◌, ◌||◌, List, eqb, ltb}
+use Rattle.std.specs.Prelude.{ℕ, Bool, true, false, not, ◌&&◌, ◌||◌, List, eqb, ltb, Option, Some, None, Result, Ok, Err}
 use Rattle.numbers.specs.Computed.Address.{in_memory, address_of, window_fits, word_of}
 use Rattle.numbers.specs.declared.field.Order.{Order}
 use Rattle.section.specs.Meaning.{shape_of}
@@ -18,9 +18,8 @@ use Rattle.caller.specs.Signature.{is_signed, mask_of, clear}
 use Rattle.caller.specs.declared.place.Spot.{Spot}
 use Rattle.caller.specs.declared.place.Spot.TheVariants.{Kept, Saved, Beyond}
 use Rattle.caller.specs.declared.place.Values.{Values}
-use Rattle.caller.specs.declared.place.Values.TheVariants.{Both, NoRa, NoFp}
-use Rattle.caller.specs.declared.registers.Asked.{Asked}
-use Rattle.caller.specs.declared.registers.Asked.TheVariants.{At, Nowhere}
+use Rattle.caller.specs.declared.place.Needed.{Needed}
+use Rattle.caller.specs.declared.place.Needed.TheVariants.{Ra, Fp}
 use Rattle.caller.specs.declared.registers.Registers.{Registers}
 use Rattle.caller.specs.declared.registers.Step.{Step}
 use Rattle.caller.specs.declared.registers.Step.TheVariants.{Caller, Unsound, Refused}
@@ -58,12 +57,12 @@ value_of stack lies order register (Saved at) = word_of stack lies at order
 value_of stack lies order register Beyond = None
 
 -- "a needed word (RA first)"
-unfoldable pub both_of : Option ℕ → Option ℕ → Values
-both_of None fp = NoRa
-both_of (Some ra) None = NoFp
-both_of (Some ra) (Some fp) = Both ra fp
+unfoldable pub both_of : Option ℕ → Option ℕ → Result Values Needed
+both_of None fp = Err Ra
+both_of (Some ra) None = Err Fp
+both_of (Some ra) (Some fp) = Ok (record { ra = ra; fp = fp })
 
-unfoldable pub values_of : List ℕ → ℕ → Order → Registers → Spot → Spot → Values
+unfoldable pub values_of : List ℕ → ℕ → Order → Registers → Spot → Spot → Result Values Needed
 values_of stack lies order registers ra fp =
     both_of (value_of stack lies order registers.lr ra) (value_of stack lies order registers.fp fp)
 
@@ -79,9 +78,9 @@ step_after registers verdict.Accepted next = next
 step_after registers (verdict.Refused number index) next = Unsound registers number index
 
 -- "Lookup at PC.", the PC asked; "PC 0 without the mark is answered 21 .. with no lookup made": `look` is not asked
-unfoldable pub look_at : (ℕ → Finding) → Asked → Finding
-look_at look (At pc) = look pc
-look_at look Nowhere = refuses 21
+unfoldable pub look_at : (ℕ → Finding) → Option ℕ → Finding
+look_at look (Some pc) = look pc
+look_at look None = refuses 21
 
 -- "21, 22, 23."
 unfoldable pub with_finding : Registers → Finding → (Row → Step) → Step
@@ -107,11 +106,10 @@ unless_lost registers ra next = elim (is_lost registers ra) [ true ↦ Refused r
 
 -- 28; "The caller has PC = RA, SP = CFA, the new FP, LR unchanged and no mark.", and RA has the bits of this mask cleared, "wherever RA
 -- came from"
-unfoldable pub with_values : Registers → ℕ → ℕ → Values → Step
-with_values registers mask cfa NoRa = Refused registers 28
-with_values registers mask cfa NoFp = Refused registers 28
-with_values registers mask cfa (Both ra fp) =
-    Caller (record { pc = clear mask ra; sp = caller_sp cfa; fp = fp; lr = registers.lr; first = 0 })
+unfoldable pub with_values : Registers → ℕ → ℕ → Result Values Needed → Step
+with_values registers mask cfa (Err word) = Refused registers 28
+with_values registers mask cfa (Ok values) =
+    Caller (record { pc = clear mask values.ra; sp = caller_sp cfa; fp = values.fp; lr = registers.lr; first = 0 })
 
 -- ---- put together, from the last on, since each names what follows it
 

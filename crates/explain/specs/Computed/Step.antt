@@ -1,6 +1,6 @@
 -- Why a step gives its answer, in the step's order: the first rule that refuses, with the numbers that it compares. That what is said
 -- holds, and implies the answer, is proved of Why.
-use Rattle.std.specs.Prelude.{ℕ, true, false, List, length}
+use Rattle.std.specs.Prelude.{ℕ, true, false, List, length, Option, Some, None}
 use Rattle.numbers.specs.Start.{distance}
 use Rattle.numbers.specs.Computed.Address.{in_memory, window_fits}
 use Rattle.numbers.specs.declared.field.Order.{Order}
@@ -16,8 +16,6 @@ use Rattle.accept.specs.declared.verdict.Verdict.TheVariants as verdict
 use Rattle.caller.specs.Frame.{asked_of, base_value, cfa_of, caller_sp}
 use Rattle.caller.specs.Signature.{mask_of, clear}
 use Rattle.caller.specs.Computed.Caller.{is_maskless, is_low, spot_of, is_lost, value_of}
-use Rattle.caller.specs.declared.registers.Asked.{Asked}
-use Rattle.caller.specs.declared.registers.Asked.TheVariants.{At, Nowhere}
 use Rattle.caller.specs.declared.registers.Process.{Process}
 use Rattle.caller.specs.declared.registers.Registers.{Registers}
 use Rattle.explain.specs.Computed.Coverers.{no_coverers}
@@ -113,9 +111,9 @@ unfoldable pub unlooked_why : StepReason → StepWhy
 unlooked_why why = record { reason = why; coverers = no_coverers }
 
 -- "For a step, PC is the one looked up; 21 at PC 0 without the mark says just that."
-unfoldable pub asked_why : List ℕ → List ℕ → Process → Registers → Asked → StepWhy
-asked_why s stack process registers Nowhere = unlooked_why reason.NothingAsked
-asked_why s stack process registers (At pc) =
+unfoldable pub asked_why : List ℕ → List ℕ → Process → Registers → Option ℕ → StepWhy
+asked_why s stack process registers None = unlooked_why reason.NothingAsked
+asked_why s stack process registers (Some pc) =
     by_looked (shape_of s) stack process registers pc (looked_of s (distance process.section pc))
 
 unfoldable pub checked_why : List ℕ → List ℕ → Process → Registers → Verdict → StepWhy

@@ -3,10 +3,10 @@
 use Rattle.caller.specs.Computed.Caller.{spot_at}
 use Rattle.caller.proofs.place.spot_at.Goals as goal
 
-pub returns-in-At : goal.returns-in-At
+pub returns-in-Some : goal.returns-in-Some
 unfolding spot_at
-returns-in-At c = rw c.in-At.is
+returns-in-Some c = rw c.in-Some.is
 
-pub returns-in-Outside : goal.returns-in-Outside
+pub returns-in-None : goal.returns-in-None
 unfolding spot_at
-returns-in-Outside c = rw c.in-Outside.is
+returns-in-None c = rw c.in-None.is

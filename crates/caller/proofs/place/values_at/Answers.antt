@@ -12,7 +12,7 @@ pub returns-in_default-value_at : goal.returns-in_default-value_at
 unfolding both_of values_of
 returns-in_default-value_at c =
     rw (
-      sym c.value_at.ensures ∙ c.in-Is.is,
+      sym c.value_at.ensures ∙ c.in-Some.is,
       sym c.value_at-2.ensures ∙ c.in_default-value_at.is,
     )
 
@@ -20,6 +20,6 @@ pub returns : goal.returns
 unfolding both_of values_of
 returns c =
     rw (
-      sym c.value_at.ensures ∙ c.in-Is.is,
-      sym c.value_at-2.ensures ∙ c.in-Is-value_at.is,
+      sym c.value_at.ensures ∙ c.in-Some.is,
+      sym c.value_at-2.ensures ∙ c.in-Some-value_at.is,
     )

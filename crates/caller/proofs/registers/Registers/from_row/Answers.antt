@@ -8,13 +8,13 @@ pub returns-then-is_maskless : goal.returns-then-is_maskless
 unfolding from_row unless_maskless
 returns-then-is_maskless c = rw (sym c.is_maskless.ensures ∙ c.if-is_maskless.true, unless_maskless)
 
-pub returns-in-Outside : goal.returns-in-Outside
+pub returns-in-None : goal.returns-in-None
 unfolding with_cfa from_row unless_maskless
-returns-in-Outside c =
-    rw (sym c.is_maskless.ensures ∙ c.if-is_maskless.false, unless_maskless) (rw (sym c.cfa_of.ensures ∙ c.in-Outside.is))
+returns-in-None c =
+    rw (sym c.is_maskless.ensures ∙ c.if-is_maskless.false, unless_maskless) (rw (sym c.cfa_of.ensures ∙ c.in-None.is))
 
-pub returns-in-At : goal.returns-in-At
+pub returns-in-Some : goal.returns-in-Some
 unfolding with_cfa from_row unless_maskless
-returns-in-At c =
+returns-in-Some c =
     rw (sym c.is_maskless.ensures ∙ c.if-is_maskless.false, unless_maskless)
-    (rw (sym c.cfa_of.ensures ∙ c.in-At.is) c.from_cfa.ensures)
+    (rw (sym c.cfa_of.ensures ∙ c.in-Some.is) c.from_cfa.ensures)

@@ -8,5 +8,5 @@ returns-in_default c = nowhere_step _ _ _ _ c.asked_of.ensures c.in_default.is
 
 pub returns : goal.returns
 returns c =
-    looked_up_step _ _ _ _ c.requires c.asked_of.ensures c.in-At.is
+    looked_up_step _ _ _ _ c.requires c.asked_of.ensures c.in-Some.is
     c.look-answer.ensures c.shape_of.ensures c.from_outcome.ensures

@@ -3,14 +3,10 @@
 use Rattle.caller.specs.Computed.Caller.{with_values}
 use Rattle.caller.proofs.registers.Registers.with_values.Goals as goal
 
-pub returns-in-NoRa : goal.returns-in-NoRa
+pub returns-in-Err : goal.returns-in-Err
 unfolding with_values
-returns-in-NoRa c = rw c.in-NoRa.is
+returns-in-Err c = rw c.in-Err.is
 
-pub returns-in-NoFp : goal.returns-in-NoFp
+pub returns-in-Ok : goal.returns-in-Ok
 unfolding with_values
-returns-in-NoFp c = rw c.in-NoFp.is
-
-pub returns-in-Both : goal.returns-in-Both
-unfolding with_values
-returns-in-Both c = rw (c.in-Both.is, c.clear.ensures, c.caller_sp.ensures)
+returns-in-Ok c = rw (c.in-Ok.is, c.clear.ensures, c.caller_sp.ensures)
