@@ -7,6 +7,7 @@ use Prim.Native.Nat.{ℕ, ◌≤◌}
 use native.Mathlib.Omega.{arith}
 use lib.ListN.{length}
 use borrow.Author.Tests.{leb-true, ltb-true}
+use Rattle.std.specs.Prelude.{Some, None}
 use Rattle.section.specs.Header.{layout_of}
 use Rattle.section.specs.declared.header.Layout.{Layout}
 use Rattle.section.specs.declared.row.Row.{Row}
@@ -16,19 +17,17 @@ use Rattle.listing.specs.Inner.Requires.{EntryThere}
 use Rattle.listing.specs.declared.lines.Cursor.{Cursor}
 use Rattle.listing.specs.declared.lines.Line.TheVariants.{OfRow}
 use Rattle.listing.specs.declared.lines.LineTurn.{LineTurn}
-use Rattle.listing.specs.declared.lines.NextLine.TheVariants as line
-use Rattle.listing.specs.declared.rows.NextRow.TheVariants as row
 use Rattle.listing.specs.declared.rows.RowTurn.{RowTurn}
 use Rattle.listing.proofs.TurnLaws.{both_true}
 
-pub no_row : (s : List ℕ) (cursor : Cursor) (turn : RowTurn) → turn ≡ row_turn s cursor.rows → turn.next ≡ row.NoMore
+pub no_row : (s : List ℕ) (cursor : Cursor) (turn : RowTurn) → turn ≡ row_turn s cursor.rows → turn.next ≡ None
     → function_turn s cursor ≡ line_turn s cursor
 unfolding line_turn line_by
 no_row s cursor turn is none = rw (sym (ap (λ t. t.next) is) ∙ none)
 
-pub one_row : (s : List ℕ) (cursor : Cursor) (turn : RowTurn) (decoded : Row) → turn ≡ row_turn s cursor.rows → turn.next ≡ row.One decoded
+pub one_row : (s : List ℕ) (cursor : Cursor) (turn : RowTurn) (decoded : Row) → turn ≡ row_turn s cursor.rows → turn.next ≡ Some decoded
     → ◌≡◌ {A = LineTurn}
-    (record { next = line.One (OfRow decoded); cursor = record { index = cursor.index; left = cursor.left; rows = turn.place } })
+    (record { next = Some (OfRow decoded); cursor = record { index = cursor.index; left = cursor.left; rows = turn.place } })
     (line_turn s cursor)
 unfolding line_turn line_by
 one_row s cursor turn decoded is one = rw (sym (ap (λ t. t.next) is) ∙ one, ap (λ t. t.place) is)

@@ -8,6 +8,7 @@ use native.Mathlib.Omega.{arith}
 use lib.Dec.{leb}
 use lib.ListN.{length, drop}
 use borrow.Author.Tests.{le-leb}
+use Rattle.std.specs.Prelude.{Some, None}
 use Rattle.section.specs.Header.{layout_of}
 use Rattle.section.specs.declared.row.Row.{Row}
 use Rattle.listing.specs.Listing.{next_row, next_line}
@@ -17,7 +18,6 @@ use Rattle.listing.specs.declared.lines.Cursor.{Cursor}
 use Rattle.listing.specs.declared.lines.Line.{Line}
 use Rattle.listing.specs.declared.lines.Line.TheVariants.{OfRow}
 use Rattle.listing.specs.declared.lines.LineTurn.{LineTurn}
-use Rattle.listing.specs.declared.lines.NextLine.TheVariants as line
 use Rattle.listing.specs.declared.rows.RowPlace.{RowPlace}
 use Rattle.listing.proofs.RowsLeft.{turn_yields}
 
@@ -76,17 +76,17 @@ line_yields s cursor = by_rows s cursor (rows_left s cursor.rows) refl
 
 -- ---- what a caller learns from what a turn yields
 
-first_of : (lines : List Line) (first : Line) → line.One first ≡ next_line lines → lines ≡ first ∷ drop 1 lines
+first_of : (lines : List Line) (first : Line) → Some first ≡ next_line lines → lines ≡ first ∷ drop 1 lines
 unfolding next_line
 first_of [] first e = absurd (let z : ◌≡◌ {A = ℕ} 0 1 = cc in omega arith)
 first_of (other ∷ rest) first e = cc
 
-none_of : (lines : List Line) → line.NoMore ≡ next_line lines → lines ≡ []
+none_of : (lines : List Line) → None ≡ next_line lines → lines ≡ []
 unfolding next_line
 none_of [] e = refl
 none_of (other ∷ rest) e = absurd (let z : ◌≡◌ {A = ℕ} 0 1 = cc in omega arith)
 
-pub yield_line : (s : List ℕ) (cursor : Cursor) (turn : LineTurn) (first : Line) → turn ≡ line_turn s cursor → turn.next ≡ line.One first
+pub yield_line : (s : List ℕ) (cursor : Cursor) (turn : LineTurn) (first : Line) → turn ≡ line_turn s cursor → turn.next ≡ Some first
     → lines_left s cursor ≡ first ∷ lines_left s turn.cursor
 yield_line s cursor turn first is one =
     let yields = line_yields s cursor in
@@ -94,5 +94,5 @@ yield_line s cursor turn first is one =
     let rest = ap (λ t. lines_left s t.cursor) is ∙ yields.rest in
     first_of (lines_left s cursor) first next ∙ ap (λ more. first ∷ more) (sym rest)
 
-pub yield_none : (s : List ℕ) (cursor : Cursor) (turn : LineTurn) → turn ≡ line_turn s cursor → turn.next ≡ line.NoMore → lines_left s cursor ≡ []
+pub yield_none : (s : List ℕ) (cursor : Cursor) (turn : LineTurn) → turn ≡ line_turn s cursor → turn.next ≡ None → lines_left s cursor ≡ []
 yield_none s cursor turn is none = none_of (lines_left s cursor) (sym none ∙ ap (λ t. t.next) is ∙ (line_yields s cursor).next)

@@ -1,7 +1,7 @@
 -- Request 01, "A listing our support desk can read": "every function and row of an accepted section, in section order, one line each:
 -- index, effective start, size, then row start, base register and offsets .. A refused section prints the refusal number and index
 -- alone." Over the meaning of a section (`functions_of`).
-use Rattle.std.specs.Prelude.{ℕ, zero, suc, true, false, List, [], ◌∷◌, ◌++◌, map, eqb}
+use Rattle.std.specs.Prelude.{ℕ, zero, suc, true, false, List, [], ◌∷◌, ◌++◌, map, eqb, Option, Some, None}
 use Rattle.section.specs.Meaning.{Function, functions_of}
 use Rattle.section.specs.declared.row.Row.{Row}
 use Rattle.accept.specs.Computed.Checks.{verdict}
@@ -11,10 +11,6 @@ use Rattle.listing.specs.Functions.{kind_of}
 use Rattle.listing.specs.declared.lines.FunctionLine.{FunctionLine}
 use Rattle.listing.specs.declared.lines.Line.{Line}
 use Rattle.listing.specs.declared.lines.Line.TheVariants.{OfFunction, OfRow}
-use Rattle.listing.specs.declared.lines.NextLine.{NextLine}
-use Rattle.listing.specs.declared.lines.NextLine.TheVariants as line
-use Rattle.listing.specs.declared.rows.NextRow.{NextRow}
-use Rattle.listing.specs.declared.rows.NextRow.TheVariants as row
 
 -- ---- the lines
 
@@ -66,13 +62,13 @@ rows_below index (OfRow first ∷ rest) = rows_below index rest
 
 -- ---- one at a time: what a call yields of those that are left, "and then say that there are no more"
 
-unfoldable pub next_row : List Row → NextRow
-next_row [] = row.NoMore
-next_row (first ∷ rest) = row.One first
+unfoldable pub next_row : List Row → Option Row
+next_row [] = None
+next_row (first ∷ rest) = Some first
 
-unfoldable pub next_line : List Line → NextLine
-next_line [] = line.NoMore
-next_line (first ∷ rest) = line.One first
+unfoldable pub next_line : List Line → Option Line
+next_line [] = None
+next_line (first ∷ rest) = Some first
 
 -- where a reader stands after so many calls, each of which moves it on
 unfoldable pub after : {P : Type 0} → (P → P) → ℕ → P → P

@@ -12,6 +12,7 @@ use lib.ListN.{length, drop}
 use lib.Seq.{drop-nil}
 use borrow.Author.Tests.{ltb-true, ltb-false, lt-ltb}
 use denote.Ref.{Bor}
+use Rattle.std.specs.Prelude.{Option, None}
 use Rattle.section.specs.Meaning.{function_in, functions_of}
 use Rattle.accept.specs.Given.{number_of_rule}
 use Rattle.accept.specs.Rules.{function_count, Obeys}
@@ -24,10 +25,7 @@ use Rattle.listing.specs.Computed.Lines.{line_turn, cursor_of, cursor_at, lines_
 use Rattle.listing.specs.Computed.Reader.{place_of}
 use Rattle.listing.specs.Computed.Turns.{nothing_left, row_turn}
 use Rattle.listing.specs.declared.lines.Line.{Line}
-use Rattle.listing.specs.declared.lines.NextLine.TheVariants as line
 use Rattle.listing.specs.declared.reader.RowReader.{RowReader}
-use Rattle.listing.specs.declared.rows.NextRow.{NextRow}
-use Rattle.listing.specs.declared.rows.NextRow.TheVariants as row
 use Rattle.listing.specs.declared.rows.RowPlace.{RowPlace}
 use Rattle.listing.specs.declared.rows.RowTurn.{RowTurn}
 use Rattle.listing.proofs.AfterLaws.{row_after, inside_after, line_after_lem}
@@ -73,11 +71,11 @@ without s i none = ⊎_elim (λ has. absurd (none has)) (λ w. w) (with_or_witho
 
 -- ---- nothing is left of nothing
 
-no_row : {rows : List _} (k : ℕ) → rows ≡ [] → next_row (drop k rows) ≡ row.NoMore
+no_row : {rows : List _} (k : ℕ) → rows ≡ [] → next_row (drop k rows) ≡ None
 unfolding next_row
 no_row k none = ap (λ rows. next_row (drop k rows)) none ∙ ap next_row (drop-nil k)
 
-no_line : {all : List Line} (k : ℕ) → all ≡ [] → next_line (drop k all) ≡ line.NoMore
+no_line : {all : List Line} (k : ℕ) → all ≡ [] → next_line (drop k all) ≡ None
 unfolding next_line
 no_line k none = ap (λ all. next_line (drop k all)) none ∙ ap next_line (drop-nil k)
 
@@ -201,7 +199,7 @@ lines_promised start one turn keeps =
 
 -- ---- the row reader: after k calls it holds the section, and stands where ours does
 
-module _ (section : Bor (List ℕ)) (i : ℕ) (readers : ℕ → RowReader) (yielded : ℕ → NextRow) (called : Called section i readers yielded) where
+module _ (section : Bor (List ℕ)) (i : ℕ) (readers : ℕ → RowReader) (yielded : ℕ → Option Row) (called : Called section i readers yielded) where
   holds : (k : ℕ) → (readers k).section ≡ section
   holds zero = called.made.0
   holds (suc k) = (called.turns k).0 ∙ holds k

@@ -11,6 +11,7 @@ use lib.Dec.{ltb}
 use lib.ListN.{drop}
 use lib.Seq.{drop-nil}
 use borrow.Author.Tests.{ltb-true, lt-ltb}
+use Rattle.std.specs.Prelude.{Option, Some, None}
 use Rattle.section.specs.Header.{layout_of}
 use Rattle.section.specs.Meaning.{function_in}
 use Rattle.section.specs.Row.{row_of}
@@ -28,8 +29,6 @@ use Rattle.listing.specs.Computed.Reader.{place_in}
 use Rattle.listing.specs.Computed.Turns.{has_row, passed, ended, nothing_left, row_turn, rows_from, rows_left}
 use Rattle.listing.specs.declared.function.Described.{Described}
 use Rattle.listing.specs.declared.function.Described.TheVariants.{Unknown, Function}
-use Rattle.listing.specs.declared.rows.NextRow.{NextRow}
-use Rattle.listing.specs.declared.rows.NextRow.TheVariants.{One, NoMore}
 use Rattle.listing.specs.declared.rows.RowPlace.{RowPlace}
 use Rattle.listing.specs.declared.rows.RowTurn.{RowTurn}
 use Rattle.listing.proofs.AfterLaws.{left_after}
@@ -47,17 +46,17 @@ use Rattle.promises.proofs.ContractLaws.{somewhere}
 
 -- ---- whether there is a row is what the struct says
 
-abbrev more_of : NextRow → ℕ
-more_of (One row) = 1
-more_of NoMore = 0
+abbrev more_of : Option Row → ℕ
+more_of (Some row) = 1
+more_of None = 0
 
 more_is : (turn : RowTurn) → (flat_turn turn).more ≡ more_of turn.next
 unfolding flat_turn flat_yield flat_next
 more_is turn = by turn.next
   where
-    by : (next : NextRow) → (flat_yield next turn.place).more ≡ more_of next
-    by (One row) = refl
-    by NoMore = refl
+    by : (next : Option Row) → (flat_yield next turn.place).more ≡ more_of next
+    by (Some row) = refl
+    by None = refl
 
 -- the list is empty where nothing is yielded
 none_left : (rows : List Row) → more_of (next_row rows) ≡ 0 → rows ≡ []
@@ -70,13 +69,13 @@ none_left (first ∷ rest) none = absurd (omega (arith, none))
 abbrev turn_by : List ℕ → RowPlace → Bool → RowTurn
 turn_by s place there =
     elim there [
-      | true ↦ record { next = One (row_of s (shape place.abi) place.code place.at); place = passed s place }
-      | false ↦ record { next = NoMore; place = ended place }
+      | true ↦ record { next = Some (row_of s (shape place.abi) place.code place.at); place = passed s place }
+      | false ↦ record { next = None; place = ended place }
     ]
 
-abbrev stands : List ℕ → RowPlace → NextRow → RowPlace
-stands s place (One row) = passed s place
-stands s place NoMore = ended place
+abbrev stands : List ℕ → RowPlace → Option Row → RowPlace
+stands s place (Some row) = passed s place
+stands s place None = ended place
 
 turn_stands : (s : List ℕ) (place : RowPlace) → (row_turn s place).place ≡ stands s place (row_turn s place).next
 unfolding row_turn
@@ -103,11 +102,11 @@ module _ (s : List ℕ) (rows : RowsInC) where
   unfolding flat_turn flat_yield flat_next
   rest-is = ap (λ (answer : RowInC). answer.rest) answer-is ∙ by told.next
     where
-      by : (next : NextRow) → (flat_yield next told.place).rest ≡ flat_place told.place
-      by (One row) = refl
-      by NoMore = refl
+      by : (next : Option Row) → (flat_yield next told.place).rest ≡ flat_place told.place
+      by (Some row) = refl
+      by None = refl
 
-  leaves : (next : NextRow) → read_next (exported_rows.next s rows) ≡ next → (exported_rows.next s rows).rest ≡ flat_place (stands s (read_rows rows) next)
+  leaves : (next : Option Row) → read_next (exported_rows.next s rows) ≡ next → (exported_rows.next s rows).rest ≡ flat_place (stands s (read_rows rows) next)
   unfolding told read_turn
   leaves next is =
       let same = sym (ap (λ (turn : RowTurn). turn.next) read_back) ∙ is in
@@ -120,8 +119,8 @@ module _ (s : List ℕ) (rows : RowsInC) where
       record {
         first = ap (λ (turn : RowTurn). turn.next) read_back ∙ yields.next;
         others = ap (λ (turn : RowTurn). rows_left s turn.place) read_back ∙ yields.rest;
-        past_row = λ row. leaves (One row);
-        at_end = leaves NoMore;
+        past_row = λ row. leaves (Some row);
+        at_end = leaves None;
         flattened = answer-is ∙ ap flat_turn (sym read_back);
       }
 
@@ -252,9 +251,9 @@ module _ (one other : FlatRowCalls) (first : TellsRows one) (second : TellsRows 
     rest-alike : (one.next s rows).rest ≡ (other.next s rows).rest
     rest-alike = by (read_next (one.next s rows)) refl
       where
-        by : (next : NextRow) → read_next (one.next s rows) ≡ next → (one.next s rows).rest ≡ (other.next s rows).rest
-        by (One row) is = (first.next s rows).past_row row is ∙ sym ((second.next s rows).past_row row (sym next-alike ∙ is))
-        by NoMore is = (first.next s rows).at_end is ∙ sym ((second.next s rows).at_end (sym next-alike ∙ is))
+        by : (next : Option Row) → read_next (one.next s rows) ≡ next → (one.next s rows).rest ≡ (other.next s rows).rest
+        by (Some row) is = (first.next s rows).past_row row is ∙ sym ((second.next s rows).past_row row (sym next-alike ∙ is))
+        by None is = (first.next s rows).at_end is ∙ sym ((second.next s rows).at_end (sym next-alike ∙ is))
 
     turn-alike : read_turn (one.next s rows) ≡ read_turn (other.next s rows)
     unfolding read_turn

@@ -2,7 +2,7 @@
 -- start, base register and offsets .. a row reader that holds the section's bytes and its place. It must yield each function's rows once
 -- each and then say that there are no more. A refused section prints the refusal number and index alone." What is promised of a listing, of
 -- a reader of rows and of a reader of lines: predicates of any such calls, over any bytes; and what the contracts of ours allow.
-use Rattle.std.specs.Prelude.{◌≡◌, List, [], ◌↔◌, ℕ, suc, ◌≤◌, ◌<◌, length, drop}
+use Rattle.std.specs.Prelude.{◌≡◌, List, [], ◌↔◌, ℕ, suc, ◌≤◌, ◌<◌, length, drop, Option, None}
 use borrow.Fn.Kinds.{Dens}
 use contract.Lifetimes.{Lfts}
 use Rattle.std.specs.Borrow.{Bor}
@@ -14,11 +14,7 @@ use Rattle.listing.specs.Listing.{Listing, refused, lines, function_line_of, lin
 use Rattle.listing.specs.declared.lines.Cursor.{Cursor}
 use Rattle.listing.specs.declared.lines.Line.{Line}
 use Rattle.listing.specs.declared.lines.LineTurn.{LineTurn}
-use Rattle.listing.specs.declared.lines.NextLine.{NextLine}
-use Rattle.listing.specs.declared.lines.NextLine.TheVariants as line
 use Rattle.listing.specs.declared.reader.RowReader.{RowReader}
-use Rattle.listing.specs.declared.rows.NextRow.{NextRow}
-use Rattle.listing.specs.declared.rows.NextRow.TheVariants as row
 use Rattle.listing.specs.declared.rows.RowPlace.{RowPlace}
 use Rattle.listing.specs.declared.rows.RowTurn.{RowTurn}
 use Rattle.listing.proofs.lines.cursor_at.Kinds as one-kinds
@@ -60,7 +56,7 @@ pub record Lists (listing : List ℕ → Listing) : Type 0 where
 pub record RowCalls : Type 1 where
   pub Place : Type 0
   pub start : List ℕ → ℕ → Place
-  pub next : List ℕ → Place → NextRow
+  pub next : List ℕ → Place → Option Row
   pub on : List ℕ → Place → Place
   pub at : Place → ℕ
 
@@ -69,11 +65,11 @@ abbrev pub HasRows : List ℕ → ℕ → Type 0
 HasRows s i = Obeys s × (i < function_count s)
 
 -- what its calls yield, by their number, from 0 on
-pub record YieldsRows (s : List ℕ) (i : ℕ) (yielded : ℕ → NextRow) : Type 0 where
+pub record YieldsRows (s : List ℕ) (i : ℕ) (yielded : ℕ → Option Row) : Type 0 where
   -- "It must yield each function's rows once each and then say that there are no more.", for ever
   pub rows : HasRows s i → (k : ℕ) → yielded k ≡ next_row (drop k (function_in s i).rows)
   -- where there is no such function it says so from the first call on
-  pub none : ¬ HasRows s i → (k : ℕ) → yielded k ≡ row.NoMore
+  pub none : ¬ HasRows s i → (k : ℕ) → yielded k ≡ None
 
 -- where it stands after k calls
 abbrev pub place_after : (calls : RowCalls) → List ℕ → ℕ → ℕ → calls.Place
@@ -90,20 +86,20 @@ pub record LineCalls : Type 1 where
   pub Place : Type 0
   pub start : List ℕ → Place
   pub one : List ℕ → ℕ → Place
-  pub next : List ℕ → Place → NextLine
+  pub next : List ℕ → Place → Option Line
   pub on : List ℕ → Place → Place
 
 -- what its call k yields, from a place on
-abbrev pub line_after : (calls : LineCalls) → List ℕ → calls.Place → ℕ → NextLine
+abbrev pub line_after : (calls : LineCalls) → List ℕ → calls.Place → ℕ → Option Line
 line_after calls s place k = calls.next s (after (calls.on s) k place)
 
 pub record ReadsLines (listing : List ℕ → Listing) (calls : LineCalls) : Type 0 where
   -- the lines of the listing once each, and then no more, for ever; none of a refused section
   pub yields : (s : List ℕ) (all : List Line) → listing s ≡ lines all → (k : ℕ) → line_after calls s (calls.start s) k ≡ next_line (drop k all)
-  pub none : (s : List ℕ) (number index : ℕ) → listing s ≡ refused number index → (k : ℕ) → line_after calls s (calls.start s) k ≡ line.NoMore
+  pub none : (s : List ℕ) (number index : ℕ) → listing s ≡ refused number index → (k : ℕ) → line_after calls s (calls.start s) k ≡ None
   -- one function's line and those of its rows, and none where there is no such function
   pub of_one : (s : List ℕ) (i : ℕ) → HasRows s i → (k : ℕ) → line_after calls s (calls.one s i) k ≡ next_line (drop k (lines_of_function i (function_in s i)))
-  pub none_of_one : (s : List ℕ) (i : ℕ) → ¬ HasRows s i → (k : ℕ) → line_after calls s (calls.one s i) k ≡ line.NoMore
+  pub none_of_one : (s : List ℕ) (i : ℕ) → ¬ HasRows s i → (k : ℕ) → line_after calls s (calls.one s i) k ≡ None
 
 -- ---- the contracts
 
@@ -154,7 +150,7 @@ LinesPromised listing =
 
 -- "a row reader that holds the section's bytes and its place": the readers that the contract of `reader_of` allows first and that of
 -- `next_row` then leaves, call after call, and what these calls yield
-pub record Called (section : Bor (List ℕ)) (i : ℕ) (readers : ℕ → RowReader) (yielded : ℕ → NextRow) : Type 0 where
+pub record Called (section : Bor (List ℕ)) (i : ℕ) (readers : ℕ → RowReader) (yielded : ℕ → Option Row) : Type 0 where
   pub within : Lfts 1
   pub during : ℕ → Lfts 2
   pub process : ℕ → Lies
@@ -163,13 +159,13 @@ pub record Called (section : Bor (List ℕ)) (i : ℕ) (readers : ℕ → RowRea
       → turn_says.Learnt (during k) (record { ref_ptr = (process k).place; ghost_name = (process k).name; now = readers k }, tt) (yielded k)
       (at_exit move.ended (during k) (record { ref_ptr = (process k).place; ghost_name = (process k).name; now = readers k }, tt) (readers (suc k), tt))
 
-pub record ReaderReads (section : Bor (List ℕ)) (i : ℕ) (readers : ℕ → RowReader) (yielded : ℕ → NextRow) : Type 0 where
+pub record ReaderReads (section : Bor (List ℕ)) (i : ℕ) (readers : ℕ → RowReader) (yielded : ℕ → Option Row) : Type 0 where
   pub yields : YieldsRows section.now i yielded
   pub holds : (k : ℕ) → (readers k).section ≡ section
   pub inside : (k : ℕ) → (readers k).place.at ≤ length section.now
 
 abbrev pub ReaderPromised : Type 0
 ReaderPromised =
-    (section : Bor (List ℕ)) (i : ℕ) (readers : ℕ → RowReader) (yielded : ℕ → NextRow)
+    (section : Bor (List ℕ)) (i : ℕ) (readers : ℕ → RowReader) (yielded : ℕ → Option Row)
     → Called section i readers yielded
     → ReaderReads section i readers yielded

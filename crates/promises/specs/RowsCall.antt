@@ -1,7 +1,7 @@
 -- The rows of a function one at a time, as a program in C sees them: a first call says where the reader of them begins, and each further
 -- one yields a row and where the reader then stands. What is promised, as a predicate of any two such calls, of any bytes and of any
 -- numbers that are handed in; and what the contracts of our two exported functions allow.
-use Rattle.std.specs.Prelude.{◌≡◌, List, ℕ, ◌<◌, drop}
+use Rattle.std.specs.Prelude.{◌≡◌, List, ℕ, ◌<◌, drop, Some, None}
 use borrow.Fn.Kinds.{Dens}
 use contract.Lifetimes.{Lfts}
 use Rattle.section.specs.Meaning.{function_in}
@@ -11,7 +11,6 @@ use Rattle.listing.specs.Functions.{rows_place, described_of}
 use Rattle.listing.specs.Listing.{next_row, after}
 use Rattle.listing.specs.Computed.Reader.{place_in}
 use Rattle.listing.specs.Computed.Turns.{passed, ended, nothing_left, row_turn, rows_left}
-use Rattle.listing.specs.declared.rows.NextRow.TheVariants.{One, NoMore}
 use Rattle.suntimpani.specs.FlatRows.{flat_place, flat_turn}
 use Rattle.suntimpani.specs.Read.{read_rows, read_next, read_turn}
 use Rattle.suntimpani.specs.declared.rows.RowInC.{RowInC}
@@ -55,8 +54,8 @@ pub record NextTold (s : List ℕ) (rows : RowsInC) (answer : RowInC) : Type 0 w
   -- and leaves the others
   pub others : rows_left s (read_rows answer.rest) ≡ drop 1 (rows_left s (read_rows rows))
   -- the reader then stands past the row; where there was none, where it stood, with none left
-  pub past_row : (row : Row) → read_next answer ≡ One row → answer.rest ≡ flat_place (passed s (read_rows rows))
-  pub at_end : read_next answer ≡ NoMore → answer.rest ≡ flat_place (ended (read_rows rows))
+  pub past_row : (row : Row) → read_next answer ≡ Some row → answer.rest ≡ flat_place (passed s (read_rows rows))
+  pub at_end : read_next answer ≡ None → answer.rest ≡ flat_place (ended (read_rows rows))
   -- nothing else stands in the struct: a field without meaning is 0
   pub flattened : answer ≡ flat_turn (read_turn answer)
 

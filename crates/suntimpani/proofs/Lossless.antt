@@ -10,6 +10,7 @@ use native.Mathlib.Omega.{arith}
 use lib.Dec.{eqb, ltb}
 use lib.ListN.{length, get_or}
 use borrow.Author.Tests.{ne_eqb, lt-ltb, le-ltb}
+use Rattle.std.specs.Prelude.{Option, Some, None}
 use Rattle.section.specs.Header.{layout_of}
 use Rattle.section.specs.Shape.{abi_of}
 use Rattle.section.specs.declared.row.Base.{Base}
@@ -31,8 +32,6 @@ use Rattle.listing.specs.declared.function.Described.{Described}
 use Rattle.listing.specs.declared.function.Described.TheVariants as described
 use Rattle.listing.specs.declared.function.Kind.{Kind}
 use Rattle.listing.specs.declared.function.Kind.TheVariants.{Plain, Repeated}
-use Rattle.listing.specs.declared.rows.NextRow.{NextRow}
-use Rattle.listing.specs.declared.rows.NextRow.TheVariants.{One, NoMore}
 use Rattle.listing.specs.declared.rows.RowPlace.{RowPlace}
 use Rattle.listing.specs.declared.rows.RowTurn.{RowTurn}
 use Rattle.lookup.specs.Numbers.{number_of_unfound, outcome_number, outcome_indexes, outcome_row}
@@ -143,15 +142,15 @@ read_yielded_lem more row place i =
       signed = read_flag row.signed i;
     }
 
-read_next_lem : (next : NextRow) (place : RowPlace) → read_next (flat_yield next place) ≡ next
+read_next_lem : (next : Option Row) (place : RowPlace) → read_next (flat_yield next place) ≡ next
 unfolding read_next flat_yield flat_next
-read_next_lem (One row) place = ap One (read_yielded_lem 1 row place)
-read_next_lem NoMore place = refl
+read_next_lem (Some row) place = ap Some (read_yielded_lem 1 row place)
+read_next_lem None place = refl
 
-read_rest : (next : NextRow) (place : RowPlace) → read_rows (flat_yield next place).rest ≡ place
+read_rest : (next : Option Row) (place : RowPlace) → read_rows (flat_yield next place).rest ≡ place
 unfolding flat_yield flat_next
-read_rest (One row) place = place_read_back place
-read_rest NoMore place = place_read_back place
+read_rest (Some row) place = place_read_back place
+read_rest None place = place_read_back place
 
 -- whatever row it yields, and wherever it leaves the reader
 pub turn_read_back : (turn : RowTurn) → read_turn (flat_turn turn) ≡ turn

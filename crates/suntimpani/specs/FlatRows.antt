@@ -1,10 +1,8 @@
 -- Rows one at a time as flat structs: where a reader stands, and one turn of it. Fields without meaning in a case are 0.
-use Rattle.std.specs.Prelude.{ℕ}
+use Rattle.std.specs.Prelude.{ℕ, Option, Some, None}
 use Rattle.section.specs.declared.row.Row.{Row}
 use Rattle.section.specs.declared.shape.Abi.{Abi}
 use Rattle.section.specs.declared.shape.Abi.TheVariants.{Aarch64Big, Aarch64Little, Amd64}
-use Rattle.listing.specs.declared.rows.NextRow.{NextRow}
-use Rattle.listing.specs.declared.rows.NextRow.TheVariants.{One, NoMore}
 use Rattle.listing.specs.declared.rows.RowPlace.{RowPlace}
 use Rattle.listing.specs.declared.rows.RowTurn.{RowTurn}
 use Rattle.suntimpani.specs.Flat.{base_number, place_kind, place_offset, flag, empty_row}
@@ -39,9 +37,9 @@ flat_next more row place =
       rest = flat_place place;
     }
 
-unfoldable pub flat_yield : NextRow → RowPlace → RowInC
-flat_yield (One row) place = flat_next 1 row place
-flat_yield NoMore place = flat_next 0 empty_row place
+unfoldable pub flat_yield : Option Row → RowPlace → RowInC
+flat_yield (Some row) place = flat_next 1 row place
+flat_yield None place = flat_next 0 empty_row place
 
 unfoldable pub flat_turn : RowTurn → RowInC
 flat_turn turn = flat_yield turn.next turn.place

@@ -1,5 +1,5 @@
 -- How each flat struct is read back: the answer that it stands for, as the header for C says it.
-use Rattle.std.specs.Prelude.{ℕ, Bool, true, false, not, ◌||◌, eqb, ltb, ℤ}
+use Rattle.std.specs.Prelude.{ℕ, Bool, true, false, not, ◌||◌, eqb, ltb, ℤ, Option, Some, None}
 use Rattle.section.specs.Shape.{abi_of}
 use Rattle.section.specs.declared.row.Base.{Base}
 use Rattle.section.specs.declared.row.Base.TheVariants.{Fp, Sp}
@@ -10,8 +10,6 @@ use Rattle.accept.specs.declared.verdict.Verdict.{Verdict}
 use Rattle.accept.specs.declared.verdict.Verdict.TheVariants as verdict
 use Rattle.listing.specs.declared.function.Kind.{Kind}
 use Rattle.listing.specs.declared.function.Kind.TheVariants.{Plain, Repeated}
-use Rattle.listing.specs.declared.rows.NextRow.{NextRow}
-use Rattle.listing.specs.declared.rows.NextRow.TheVariants.{One, NoMore}
 use Rattle.listing.specs.declared.rows.RowPlace.{RowPlace}
 use Rattle.listing.specs.declared.rows.RowTurn.{RowTurn}
 use Rattle.lookup.specs.declared.answer.Answer.{Answer}
@@ -102,8 +100,8 @@ read_yielded turned =
       signed = not (eqb turned.signedra 0);
     }
 
-unfoldable pub read_next : RowInC → NextRow
-read_next turned = elim (eqb turned.more 0) [ true ↦ NoMore | false ↦ One (read_yielded turned) ]
+unfoldable pub read_next : RowInC → Option Row
+read_next turned = elim (eqb turned.more 0) [ true ↦ None | false ↦ Some (read_yielded turned) ]
 
 unfoldable pub read_turn : RowInC → RowTurn
 read_turn turned = record { next = read_next turned; place = read_rows turned.rest }

@@ -1,5 +1,5 @@
 -- One turn of a listing, on any bytes and from any cursor, and the lines that are left.
-use Rattle.std.specs.Prelude.{ℕ, zero, suc, ◌+◌, ◌-◌, Bool, true, false, ◌&&◌, List, [], ◌∷◌, ◌++◌, map, leb, ltb, length}
+use Rattle.std.specs.Prelude.{ℕ, zero, suc, ◌+◌, ◌-◌, Bool, true, false, ◌&&◌, List, [], ◌∷◌, ◌++◌, map, leb, ltb, length, Option, Some, None}
 use Rattle.section.specs.Header.{layout_of}
 use Rattle.section.specs.declared.header.Layout.{Layout}
 use Rattle.accept.specs.Computed.Checks.{verdict}
@@ -13,9 +13,6 @@ use Rattle.listing.specs.declared.lines.FunctionLine.{FunctionLine}
 use Rattle.listing.specs.declared.lines.Line.{Line}
 use Rattle.listing.specs.declared.lines.Line.TheVariants.{OfFunction, OfRow}
 use Rattle.listing.specs.declared.lines.LineTurn.{LineTurn}
-use Rattle.listing.specs.declared.lines.NextLine.TheVariants as line
-use Rattle.listing.specs.declared.rows.NextRow.{NextRow}
-use Rattle.listing.specs.declared.rows.NextRow.TheVariants as row
 use Rattle.listing.specs.declared.rows.RowPlace.{RowPlace}
 
 -- ---- one turn
@@ -26,7 +23,7 @@ cursor_over index left = record { index = index; left = left; rows = nothing_lef
 unfoldable pub stopped : Cursor → LineTurn
 stopped cursor =
     record {
-      next = line.NoMore;
+      next = None;
       cursor = record { index = cursor.index; left = 0; rows = ended cursor.rows };
     }
 
@@ -37,7 +34,7 @@ function_line index facts = record { index = index; start = facts.start; size = 
 unfoldable pub line_at : Cursor → Facts → LineTurn
 line_at cursor facts =
     record {
-      next = line.One (OfFunction (function_line cursor.index facts));
+      next = Some (OfFunction (function_line cursor.index facts));
       cursor = record { index = cursor.index + 1; left = cursor.left - 1; rows = facts.rows };
     }
 
@@ -57,13 +54,13 @@ unfoldable pub function_turn : List ℕ → Cursor → LineTurn
 function_turn s cursor = elim (leb 1 cursor.left && leb 28 (length s)) [ true ↦ entry_turn s cursor | false ↦ stopped cursor ]
 
 -- a row's line where one is left, else the next function's
-unfoldable pub line_by : List ℕ → Cursor → RowPlace → NextRow → LineTurn
-line_by s cursor place (row.One decoded) =
+unfoldable pub line_by : List ℕ → Cursor → RowPlace → Option Row → LineTurn
+line_by s cursor place (Some decoded) =
     record {
-      next = line.One (OfRow decoded);
+      next = Some (OfRow decoded);
       cursor = record { index = cursor.index; left = cursor.left; rows = place };
     }
-line_by s cursor place row.NoMore = function_turn s cursor
+line_by s cursor place None = function_turn s cursor
 
 unfoldable pub line_turn : List ℕ → Cursor → LineTurn
 line_turn s cursor = line_by s cursor (row_turn s cursor.rows).place (row_turn s cursor.rows).next

@@ -1,11 +1,10 @@
 -- One turn of a row reader, on any bytes and from any place: the row that stands there, if a whole one does, and the next place.
-use Rattle.std.specs.Prelude.{ℕ, zero, suc, ◌+◌, ◌-◌, ◌^◌, Bool, true, false, ◌&&◌, List, [], ◌∷◌, leb, length}
+use Rattle.std.specs.Prelude.{ℕ, zero, suc, ◌+◌, ◌-◌, ◌^◌, Bool, true, false, ◌&&◌, List, [], ◌∷◌, leb, length, Some, None}
 use Rattle.section.specs.Row.{info_of, count_of, offset_size_of, row_length, row_of}
 use Rattle.section.specs.Shape.{shape}
 use Rattle.section.specs.declared.row.Row.{Row}
 use Rattle.section.specs.declared.shape.Shape.{Shape}
 use Rattle.section.specs.declared.shape.Abi.TheVariants.{Amd64}
-use Rattle.listing.specs.declared.rows.NextRow.TheVariants.{One, NoMore}
 use Rattle.listing.specs.declared.rows.RowPlace.{RowPlace}
 use Rattle.listing.specs.declared.rows.RowTurn.{RowTurn}
 
@@ -46,8 +45,8 @@ nothing_left = record { abi = Amd64; code = 0; at = 0; left = 0 }
 unfoldable pub row_turn : List ℕ → RowPlace → RowTurn
 row_turn s place =
     elim (has_row s place) [
-      | true ↦ record { next = One (row_of s (shape place.abi) place.code place.at); place = passed s place }
-      | false ↦ record { next = NoMore; place = ended place }
+      | true ↦ record { next = Some (row_of s (shape place.abi) place.code place.at); place = passed s place }
+      | false ↦ record { next = None; place = ended place }
     ]
 
 -- the rows that are left: at most `left` from a place on; one that is not whole ends them
