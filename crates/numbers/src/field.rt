@@ -5,7 +5,7 @@ ghost use Rattle.numbers.specs.Field.{field_of, byte_of};
 ghost use Rattle.numbers.specs.Inner.Digits.{digit_place};
 ghost use Rattle.numbers.specs.Computed.Number.{number_of};
 
-#[derive(Clone, Copy)]
+#[derive(Clone, Copy, PartialEq, Eq)]
 pub enum Order {
     Little,
     Big,
