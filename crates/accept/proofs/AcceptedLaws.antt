@@ -22,8 +22,8 @@ use Rattle.section.proofs.SameLaws.{function_same}
 use Rattle.accept.specs.Rules.{function_count, row_count, row_info_at, row_start_at, HeaderObeys, Obeys}
 use Rattle.accept.specs.Computed.Checks.{entry_fault, verdict}
 use Rattle.accept.specs.Inner.Reliable.{Reliable}
-use Rattle.accept.specs.declared.verdict.Fault.TheVariants.{Sound}
-use Rattle.accept.specs.declared.verdict.Verdict.TheVariants.{Accepted}
+use Rattle.accept.specs.Fault.{Sound}
+use Rattle.accept.specs.Verdict.{Accepted}
 use Rattle.accept.proofs.Exactly.{accepted_exactly_when, entry_exactly_when}
 use Rattle.accept.proofs.InOrder.{in_order}
 use Rattle.accept.proofs.RowLaws.{entry_readable, entry_rising}

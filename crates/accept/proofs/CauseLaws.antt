@@ -6,10 +6,10 @@ use mathlib.Core.List.{List, [], ◌∷◌}
 use mathlib.Core.Logic.{◌⊎◌, inl, inr, ◌↔◌, ⊎_elim}
 use Prim.Native.Nat.{ℕ, ◌<◌}
 use native.Mathlib.Omega.{arith}
-use Rattle.accept.specs.Given.{Rule, number_of_rule, verdict_number, verdict_indexes, Given, BrokenFirst}
+use Rattle.accept.specs.Given.{number_of_rule, verdict_number, verdict_indexes, Given, BrokenFirst}
+use Rattle.accept.specs.declared.verdict.Rule.{Rule}
 use Rattle.accept.specs.Computed.Checks.{verdict}
-use Rattle.accept.specs.declared.verdict.Verdict.{Verdict}
-use Rattle.accept.specs.declared.verdict.Verdict.TheVariants.{Accepted, Refused}
+use Rattle.accept.specs.Verdict.{Verdict, Accepted, Refused}
 use Rattle.accept.proofs.Exactly.{accepted_exactly_when, given_exactly_when, refused_by_a_rule, obeys_or_refusal, number_of_rule_lem, by_number}
 
 module _ {Cause : Type 0} (number_of : Cause → ℕ) where

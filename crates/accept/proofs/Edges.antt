@@ -9,9 +9,10 @@ use native.Mathlib.Omega.{arith}
 use lib.ListN.{length, set}
 use Rattle.section.specs.SectionS.{section_s}
 use Rattle.accept.specs.Computed.Checks.{verdict}
-use Rattle.accept.specs.Given.{long, number_of_rule}
+use Rattle.accept.specs.Given.{number_of_rule}
+use Rattle.accept.specs.declared.verdict.Rule.TheVariants.{Long}
 use Rattle.accept.specs.Inner.Opened.{accept_opened}
-use Rattle.accept.specs.declared.verdict.Verdict.TheVariants.{Refused}
+use Rattle.accept.specs.Verdict.{Refused}
 use Rattle.accept.proofs.Exactly.{given_exactly_when}
 
 -- ---- 2: "more than 16,777,216 bytes"
@@ -19,7 +20,7 @@ use Rattle.accept.proofs.Exactly.{given_exactly_when}
 pub number_2_exactly_when : (s : List ℕ) (i : ℕ) → (verdict s ≡ Refused 2 i) ↔ ((i ≡ 0) × (16777216 < length s))
 unfolding number_of_rule
 number_2_exactly_when s i =
-    let given = given_exactly_when s long i in (
+    let given = given_exactly_when s Long i in (
       λ e. let (first, enough, above) = given.0 e in (first, omega arith),
       λ h. given.1 (h.0, omega arith, λ most. omega arith),
     )

@@ -11,11 +11,13 @@ use native.Mathlib.Omega.{arith}
 use lib.ListN.{get_or}
 use Rattle.section.specs.Entry.{type_of}
 use Rattle.section.specs.Meaning.{area_of, shape_of, entry_in, row_place_at}
-use Rattle.accept.specs.Given.{Rule, short, long, magic, version, flags, abi, fixed, sizes, entry_info, repeat_size, rows_inside, row_info, rows_rising, sorted, row_sum, number_of_rule, Reached, RowsReached, RowReached, Given}
+use Rattle.accept.specs.Given.{number_of_rule, Reached, RowsReached, RowReached, Given}
+use Rattle.accept.specs.declared.verdict.Rule.{Rule}
+use Rattle.accept.specs.declared.verdict.Rule.TheVariants.{Short, Long, Magic, Version, Flags, Abi, Fixed, Sizes, EntryInfo, RepeatSize, RowsInside, RowInfo, RowsRising, Sorted, RowSum}
 use Rattle.accept.specs.Rules.{function_count, row_count, row_info_at, row_length_at, row_start_at, Rule9, Rule10, Rule11First, Rule14, Rule15, HeaderObeys, RowObeys, EntryObeys, Obeys}
 use Rattle.accept.specs.Computed.Checks.{header_tests, header_fault, entry_tests, row_tests, row_fault, low_of, row_fault_in, rows_fault, entry_fault, turn_fault, sum_fault, entries_verdict, verdict}
-use Rattle.accept.specs.declared.verdict.Fault.TheVariants.{Sound, Breaks}
-use Rattle.accept.specs.declared.verdict.Verdict.TheVariants.{Accepted, Refused}
+use Rattle.accept.specs.Fault.{Sound, Breaks}
+use Rattle.accept.specs.Verdict.{Accepted, Refused}
 use Rattle.accept.proofs.Decides.{not_below, by_test_lem, one_test}
 use Rattle.accept.proofs.FaultLaws.{accepted_or_refused, FirstBroken, table_sound, table_breaks, and_sound, and_breaks, try_accepted, try_refused, at_accepted, at_refused, fault_breaks, each_sound, one_breaks}
 use Rattle.accept.proofs.InOrder.{in_turn}
@@ -150,24 +152,24 @@ sum_given s i z header entries bad =
 
 given_refused : (s : List ℕ) (rule : Rule) (i : ℕ) → Given s rule i → verdict s ≡ Refused (number_of_rule rule) i
 unfolding header_tests entry_tests row_tests number_of_rule
-given_refused s short i g = header_given s 1 i g.0 (inl (refl, g.1))
-given_refused s long i g = header_given s 2 i g.0 (inr (g.1, inl (refl, g.2)))
-given_refused s magic i g = header_given s 3 i g.0 (inr (g.1, inr (g.2, inl (refl, g.3))))
-given_refused s version i g = header_given s 4 i g.0 (inr (g.1, inr (g.2, inr (g.3, inl (refl, g.4)))))
-given_refused s flags i g = header_given s 5 i g.0 (inr (g.1, inr (g.2, inr (g.3, inr (g.4, inl (refl, g.5))))))
-given_refused s abi i g = header_given s 6 i g.0 (inr (g.1, inr (g.2, inr (g.3, inr (g.4, inr (g.5, inl (refl, g.6)))))))
-given_refused s fixed i g = header_given s 7 i g.0 (inr (g.1, inr (g.2, inr (g.3, inr (g.4, inr (g.5, inr (g.6, inl (refl, g.7))))))))
-given_refused s sizes i g =
+given_refused s Short i g = header_given s 1 i g.0 (inl (refl, g.1))
+given_refused s Long i g = header_given s 2 i g.0 (inr (g.1, inl (refl, g.2)))
+given_refused s Magic i g = header_given s 3 i g.0 (inr (g.1, inr (g.2, inl (refl, g.3))))
+given_refused s Version i g = header_given s 4 i g.0 (inr (g.1, inr (g.2, inr (g.3, inl (refl, g.4)))))
+given_refused s Flags i g = header_given s 5 i g.0 (inr (g.1, inr (g.2, inr (g.3, inr (g.4, inl (refl, g.5))))))
+given_refused s Abi i g = header_given s 6 i g.0 (inr (g.1, inr (g.2, inr (g.3, inr (g.4, inr (g.5, inl (refl, g.6)))))))
+given_refused s Fixed i g = header_given s 7 i g.0 (inr (g.1, inr (g.2, inr (g.3, inr (g.4, inr (g.5, inr (g.6, inl (refl, g.7))))))))
+given_refused s Sizes i g =
     header_given s 8 i g.0 (inr (g.1, inr (g.2, inr (g.3, inr (g.4, inr (g.5, inr (g.6, inr (g.7, inl (refl, g.8)))))))))
-given_refused s entry_info i g = entry_given s 9 i g.0 (inl (refl, g.1))
-given_refused s repeat_size i g = entry_given s 10 i g.0 (inr (g.1, inl (refl, g.2)))
-given_refused s rows_inside i (inl g) = entry_given s 11 i g.0 (inr (g.1, inr (g.2, inl (refl, g.3))))
-given_refused s rows_inside i (inr g) =
+given_refused s EntryInfo i g = entry_given s 9 i g.0 (inl (refl, g.1))
+given_refused s RepeatSize i g = entry_given s 10 i g.0 (inr (g.1, inl (refl, g.2)))
+given_refused s RowsInside i (inl g) = entry_given s 11 i g.0 (inr (g.1, inr (g.2, inl (refl, g.3))))
+given_refused s RowsInside i (inr g) =
     row_given s 11 i g.0 g.1 (⊎_elim (λ bad. inl (refl, bad)) (λ r. inr (r.0, inr (r.1, inl (refl, r.2)))) g.2)
-given_refused s row_info i g = row_given s 12 i g.0 g.1 (inr (g.2, inl (refl, g.3)))
-given_refused s rows_rising i g = row_given s 13 i g.0 g.1 (inr (g.2, inr (g.3, inr (g.4, inl (refl, g.5)))))
-given_refused s sorted i g = order_given s i g.0 g.1 g.2
-given_refused s row_sum i g = sum_given s i g.0 g.1 g.2 g.3
+given_refused s RowInfo i g = row_given s 12 i g.0 g.1 (inr (g.2, inl (refl, g.3)))
+given_refused s RowsRising i g = row_given s 13 i g.0 g.1 (inr (g.2, inr (g.3, inr (g.4, inl (refl, g.5)))))
+given_refused s Sorted i g = order_given s i g.0 g.1 g.2
+given_refused s RowSum i g = sum_given s i g.0 g.1 g.2 g.3
 
 -- ---- every section obeys the rules, or one is given
 
@@ -176,39 +178,39 @@ Refusal s = (rule : Rule) × (i : ℕ) × Given s rule i
 
 row_decided : (s : List ℕ) (i k : ℕ) → RowReached s i k → RowObeys s i k ⊎ Refusal s
 row_decided s i k reached =
-    by_test_lem (rule11_fixed s i k) (λ bad. inr (rows_inside, i, inr (k, reached, inl bad))) λ fixed.
-    by_test_lem (rule12 s i k) (λ bad. inr (row_info, i, (k, reached, fixed, bad))) λ r12.
-    by_test_lem (rule11_offsets s i k) (λ bad. inr (rows_inside, i, inr (k, reached, inr (fixed, r12, bad)))) λ offsets.
-    by_test_lem (rule13 s i k) (λ bad. inr (rows_rising, i, (k, reached, fixed, r12, offsets, bad))) λ r13.
+    by_test_lem (rule11_fixed s i k) (λ bad. inr (RowsInside, i, inr (k, reached, inl bad))) λ fixed.
+    by_test_lem (rule12 s i k) (λ bad. inr (RowInfo, i, (k, reached, fixed, bad))) λ r12.
+    by_test_lem (rule11_offsets s i k) (λ bad. inr (RowsInside, i, inr (k, reached, inr (fixed, r12, bad)))) λ offsets.
+    by_test_lem (rule13 s i k) (λ bad. inr (RowsRising, i, (k, reached, fixed, r12, offsets, bad))) λ r13.
     inl (record { fixed = fixed; rule12 = r12; offsets = offsets; rule13 = r13 })
 
 entry_decided : (s : List ℕ) (i : ℕ) → Reached s i → EntryObeys s i ⊎ Refusal s
 entry_decided s i reached =
-    by_test_lem (rule9 s i) (λ bad. inr (entry_info, i, (reached, bad))) λ r9.
-    by_test_lem (rule10 s i) (λ bad. inr (repeat_size, i, (reached, r9, bad))) λ r10.
-    by_test_lem (rule11_first s i) (λ bad. inr (rows_inside, i, inl (reached, r9, r10, bad))) λ first.
+    by_test_lem (rule9 s i) (λ bad. inr (EntryInfo, i, (reached, bad))) λ r9.
+    by_test_lem (rule10 s i) (λ bad. inr (RepeatSize, i, (reached, r9, bad))) λ r10.
+    by_test_lem (rule11_first s i) (λ bad. inr (RowsInside, i, inl (reached, r9, r10, bad))) λ first.
     let rows : RowsReached s i = record { entry = reached; rule9 = r9; rule10 = r10; first = first } in
     ⊎_elim
     (λ all.
-    by_test_lem (rule14 s i) (λ bad. inr (sorted, i, (rows, all, bad))) λ r14.
+    by_test_lem (rule14 s i) (λ bad. inr (Sorted, i, (rows, all, bad))) λ r14.
     inl (record { rule9 = r9; rule10 = r10; first = first; rows = all; rule14 = r14 }))
     inr
     (in_turn (row_count s i) (λ k lt earlier. row_decided s i k (record { rows = rows; inside = lt; earlier = earlier })))
 
 pub obeys_or_refusal : (s : List ℕ) → Obeys s ⊎ Refusal s
 obeys_or_refusal s =
-    by_test_lem (rule1 s) (λ bad. inr (short, 0, (refl, bad))) λ r1.
-    by_test_lem (rule2 s) (λ bad. inr (long, 0, (refl, r1, bad))) λ r2.
-    by_test_lem (rule3 s) (λ bad. inr (magic, 0, (refl, r1, r2, bad))) λ r3.
-    by_test_lem (rule4 s) (λ bad. inr (version, 0, (refl, r1, r2, r3, bad))) λ r4.
-    by_test_lem (rule5 s) (λ bad. inr (flags, 0, (refl, r1, r2, r3, r4, bad))) λ r5.
-    by_test_lem (rule6 s) (λ bad. inr (abi, 0, (refl, r1, r2, r3, r4, r5, bad))) λ r6.
-    by_test_lem (rule7 s) (λ bad. inr (fixed, 0, (refl, r1, r2, r3, r4, r5, r6, bad))) λ r7.
-    by_test_lem (rule8 s) (λ bad. inr (sizes, 0, (refl, r1, r2, r3, r4, r5, r6, r7, bad))) λ r8.
+    by_test_lem (rule1 s) (λ bad. inr (Short, 0, (refl, bad))) λ r1.
+    by_test_lem (rule2 s) (λ bad. inr (Long, 0, (refl, r1, bad))) λ r2.
+    by_test_lem (rule3 s) (λ bad. inr (Magic, 0, (refl, r1, r2, bad))) λ r3.
+    by_test_lem (rule4 s) (λ bad. inr (Version, 0, (refl, r1, r2, r3, bad))) λ r4.
+    by_test_lem (rule5 s) (λ bad. inr (Flags, 0, (refl, r1, r2, r3, r4, bad))) λ r5.
+    by_test_lem (rule6 s) (λ bad. inr (Abi, 0, (refl, r1, r2, r3, r4, r5, bad))) λ r6.
+    by_test_lem (rule7 s) (λ bad. inr (Fixed, 0, (refl, r1, r2, r3, r4, r5, r6, bad))) λ r7.
+    by_test_lem (rule8 s) (λ bad. inr (Sizes, 0, (refl, r1, r2, r3, r4, r5, r6, r7, bad))) λ r8.
     let header : HeaderObeys s = record { rule1 = r1; rule2 = r2; rule3 = r3; rule4 = r4; rule5 = r5; rule6 = r6; rule7 = r7; rule8 = r8 } in
     ⊎_elim
     (λ all.
-    by_test_lem (rule15 s) (λ bad. inr (row_sum, 0, (refl, header, all, bad))) λ r15.
+    by_test_lem (rule15 s) (λ bad. inr (RowSum, 0, (refl, header, all, bad))) λ r15.
     inl (record { header = header; entries = all; rule15 = r15 }))
     inr
     (in_turn (function_count s) (λ i lt earlier. entry_decided s i (record { header = header; inside = lt; earlier = earlier })))
@@ -229,21 +231,21 @@ refused_by_a_rule s number i e =
 -- its number is 1 to 15
 pub number_of_rule_lem : (rule : Rule) → (1 ≤ number_of_rule rule) × (number_of_rule rule ≤ 15)
 unfolding number_of_rule
-number_of_rule_lem short = omega arith
-number_of_rule_lem long = omega arith
-number_of_rule_lem magic = omega arith
-number_of_rule_lem version = omega arith
-number_of_rule_lem flags = omega arith
-number_of_rule_lem abi = omega arith
-number_of_rule_lem fixed = omega arith
-number_of_rule_lem sizes = omega arith
-number_of_rule_lem entry_info = omega arith
-number_of_rule_lem repeat_size = omega arith
-number_of_rule_lem rows_inside = omega arith
-number_of_rule_lem row_info = omega arith
-number_of_rule_lem rows_rising = omega arith
-number_of_rule_lem sorted = omega arith
-number_of_rule_lem row_sum = omega arith
+number_of_rule_lem Short = omega arith
+number_of_rule_lem Long = omega arith
+number_of_rule_lem Magic = omega arith
+number_of_rule_lem Version = omega arith
+number_of_rule_lem Flags = omega arith
+number_of_rule_lem Abi = omega arith
+number_of_rule_lem Fixed = omega arith
+number_of_rule_lem Sizes = omega arith
+number_of_rule_lem EntryInfo = omega arith
+number_of_rule_lem RepeatSize = omega arith
+number_of_rule_lem RowsInside = omega arith
+number_of_rule_lem RowInfo = omega arith
+number_of_rule_lem RowsRising = omega arith
+number_of_rule_lem Sorted = omega arith
+number_of_rule_lem RowSum = omega arith
 
 pub verdict_number_lem : (s : List ℕ) (number i : ℕ) → verdict s ≡ Refused number i → (1 ≤ number) × (number ≤ 15)
 verdict_number_lem s number i e =
@@ -253,29 +255,29 @@ verdict_number_lem s number i e =
 -- the rules by their numbers, from 1 on
 rules : List Rule
 rules =
-    short ∷ long ∷ magic ∷ version ∷ flags ∷ abi ∷ fixed ∷ sizes ∷ entry_info ∷ repeat_size ∷ rows_inside ∷ row_info ∷ rows_rising ∷ sorted ∷ row_sum ∷ []
+    Short ∷ Long ∷ Magic ∷ Version ∷ Flags ∷ Abi ∷ Fixed ∷ Sizes ∷ EntryInfo ∷ RepeatSize ∷ RowsInside ∷ RowInfo ∷ RowsRising ∷ Sorted ∷ RowSum ∷ []
 
 abbrev rule_of : ℕ → Rule
 unfolding rules
-rule_of number = get_or rules (number - 1) short
+rule_of number = get_or rules (number - 1) Short
 
 at_its_number : (rule : Rule) → rule_of (number_of_rule rule) ≡ rule
 unfolding rule_of number_of_rule
-at_its_number short = refl
-at_its_number long = refl
-at_its_number magic = refl
-at_its_number version = refl
-at_its_number flags = refl
-at_its_number abi = refl
-at_its_number fixed = refl
-at_its_number sizes = refl
-at_its_number entry_info = refl
-at_its_number repeat_size = refl
-at_its_number rows_inside = refl
-at_its_number row_info = refl
-at_its_number rows_rising = refl
-at_its_number sorted = refl
-at_its_number row_sum = refl
+at_its_number Short = refl
+at_its_number Long = refl
+at_its_number Magic = refl
+at_its_number Version = refl
+at_its_number Flags = refl
+at_its_number Abi = refl
+at_its_number Fixed = refl
+at_its_number Sizes = refl
+at_its_number EntryInfo = refl
+at_its_number RepeatSize = refl
+at_its_number RowsInside = refl
+at_its_number RowInfo = refl
+at_its_number RowsRising = refl
+at_its_number Sorted = refl
+at_its_number RowSum = refl
 
 -- no two rules have one number
 pub by_number : (rule other : Rule) → number_of_rule rule ≡ number_of_rule other → rule ≡ other

@@ -12,9 +12,8 @@ use Rattle.section.specs.Meaning.{Function, plain, area_of, shape_of, entry_in, 
 use Rattle.section.specs.SectionS.{section_s, overlapping_s, unsorted_s, at_entry, with_frame}
 use Rattle.accept.specs.Computed.Checks.{first_bad, and_then, given_at, then_try, first_of, header_fault, entry_fault, out_of_order, turn_fault, sum_fault, entries_verdict, verdict}
 use Rattle.accept.specs.Inner.Opened.{accept_opened}
-use Rattle.accept.specs.declared.verdict.Fault.{Fault}
-use Rattle.accept.specs.declared.verdict.Verdict.{Verdict}
-use Rattle.accept.specs.declared.verdict.Verdict.TheVariants.{Accepted, Refused}
+use Rattle.accept.specs.Fault.{Fault}
+use Rattle.accept.specs.Verdict.{Verdict, Accepted, Refused}
 use Rattle.accept.proofs.FaultLaws.{accepted_or_refused}
 
 K1 : verdict section_s ≡ Accepted

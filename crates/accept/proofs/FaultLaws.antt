@@ -9,10 +9,8 @@ use Prim.Native.Nat.{ℕ, zero, suc, ◌+◌, ◌-◌, ◌≤◌, ◌<◌}
 use native.Mathlib.Nat.{eq-or-lt_of_le}
 use native.Mathlib.Omega.{arith}
 use Rattle.accept.specs.Computed.Checks.{first_bad, and_then, given_at, then_try, first_of, fault_of}
-use Rattle.accept.specs.declared.verdict.Fault.{Fault}
-use Rattle.accept.specs.declared.verdict.Fault.TheVariants.{Sound, Breaks}
-use Rattle.accept.specs.declared.verdict.Verdict.{Verdict}
-use Rattle.accept.specs.declared.verdict.Verdict.TheVariants.{Accepted, Refused}
+use Rattle.accept.specs.Fault.{Fault, Sound, Breaks}
+use Rattle.accept.specs.Verdict.{Verdict, Accepted, Refused}
 use Rattle.accept.proofs.Decides.{Decides, passes, fails, by_test_lem}
 use Rattle.accept.proofs.TableLaws.{test_true, test_false}
 

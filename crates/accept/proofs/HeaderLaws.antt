@@ -6,12 +6,13 @@ use mathlib.Core.List.{List}
 use mathlib.Core.Logic.{◌⊎◌, inl, inr, ◌↔◌, ⊎_elim}
 use Prim.Native.Nat.{ℕ, ◌≤◌}
 use native.Mathlib.Omega.{arith}
-use Rattle.accept.specs.Given.{Rule, short, long, magic, version, flags, abi, fixed, sizes, entry_info, repeat_size, rows_inside, row_info, rows_rising, sorted, row_sum, number_of_rule, Given, HeaderBreaks}
+use Rattle.accept.specs.Given.{number_of_rule, Given, HeaderBreaks}
+use Rattle.accept.specs.declared.verdict.Rule.{Rule}
+use Rattle.accept.specs.declared.verdict.Rule.TheVariants.{Short, Long, Magic, Version, Flags, Abi, Fixed, Sizes, EntryInfo, RepeatSize, RowsInside, RowInfo, RowsRising, Sorted, RowSum}
 use Rattle.accept.specs.Rules.{HeaderObeys}
 use Rattle.accept.specs.Computed.Checks.{given_at, then_try, header_fault, entries_verdict, verdict}
-use Rattle.accept.specs.declared.verdict.Fault.{Fault}
-use Rattle.accept.specs.declared.verdict.Fault.TheVariants.{Sound, Breaks}
-use Rattle.accept.specs.declared.verdict.Verdict.TheVariants.{Refused}
+use Rattle.accept.specs.Fault.{Fault, Sound, Breaks}
+use Rattle.accept.specs.Verdict.{Refused}
 use Rattle.accept.proofs.CauseLaws.{Due}
 use Rattle.accept.proofs.Exactly.{header_exactly_when, refused_by_a_rule, verdict_number_lem, given_exactly_when}
 use Rattle.accept.proofs.FaultLaws.{sound_or_breaks}
@@ -23,22 +24,22 @@ Splits s rule = ((number_of_rule rule ≤ 8) × ¬ HeaderObeys s) ⊎ ((9 ≤ nu
 
 given_splits : (s : List ℕ) (rule : Rule) (i : ℕ) → Given s rule i → Splits s rule
 unfolding number_of_rule
-given_splits s short i g = inl (omega arith, λ obeys. g.1 obeys.rule1)
-given_splits s long i g = inl (omega arith, λ obeys. g.2 obeys.rule2)
-given_splits s magic i g = inl (omega arith, λ obeys. g.3 obeys.rule3)
-given_splits s version i g = inl (omega arith, λ obeys. g.4 obeys.rule4)
-given_splits s flags i g = inl (omega arith, λ obeys. g.5 obeys.rule5)
-given_splits s abi i g = inl (omega arith, λ obeys. g.6 obeys.rule6)
-given_splits s fixed i g = inl (omega arith, λ obeys. g.7 obeys.rule7)
-given_splits s sizes i g = inl (omega arith, λ obeys. g.8 obeys.rule8)
-given_splits s entry_info i g = inr (omega arith, g.0.header)
-given_splits s repeat_size i g = inr (omega arith, g.0.header)
-given_splits s rows_inside i (inl g) = inr (omega arith, g.0.header)
-given_splits s rows_inside i (inr g) = inr (omega arith, g.1.rows.entry.header)
-given_splits s row_info i g = inr (omega arith, g.1.rows.entry.header)
-given_splits s rows_rising i g = inr (omega arith, g.1.rows.entry.header)
-given_splits s sorted i g = inr (omega arith, g.0.entry.header)
-given_splits s row_sum i g = inr (omega arith, g.1)
+given_splits s Short i g = inl (omega arith, λ obeys. g.1 obeys.rule1)
+given_splits s Long i g = inl (omega arith, λ obeys. g.2 obeys.rule2)
+given_splits s Magic i g = inl (omega arith, λ obeys. g.3 obeys.rule3)
+given_splits s Version i g = inl (omega arith, λ obeys. g.4 obeys.rule4)
+given_splits s Flags i g = inl (omega arith, λ obeys. g.5 obeys.rule5)
+given_splits s Abi i g = inl (omega arith, λ obeys. g.6 obeys.rule6)
+given_splits s Fixed i g = inl (omega arith, λ obeys. g.7 obeys.rule7)
+given_splits s Sizes i g = inl (omega arith, λ obeys. g.8 obeys.rule8)
+given_splits s EntryInfo i g = inr (omega arith, g.0.header)
+given_splits s RepeatSize i g = inr (omega arith, g.0.header)
+given_splits s RowsInside i (inl g) = inr (omega arith, g.0.header)
+given_splits s RowsInside i (inr g) = inr (omega arith, g.1.rows.entry.header)
+given_splits s RowInfo i g = inr (omega arith, g.1.rows.entry.header)
+given_splits s RowsRising i g = inr (omega arith, g.1.rows.entry.header)
+given_splits s Sorted i g = inr (omega arith, g.0.entry.header)
+given_splits s RowSum i g = inr (omega arith, g.1)
 
 -- ---- so a fault of the header has the number of one of these
 

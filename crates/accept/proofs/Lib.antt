@@ -12,6 +12,7 @@ pub mod RowLaws
 pub mod RuleLaws
 pub mod SignedTests
 pub mod TableLaws
+pub mod ToldLaws
 pub mod TriedAgreement
 pub mod TurnLaws
 pub mod WalkLaws

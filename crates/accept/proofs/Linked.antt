@@ -16,7 +16,6 @@ use Rattle.accept.proofs.TheLinks.accept-row_check-check_row as link-row_check-c
 use Rattle.accept.proofs.TheLinks.accept-row_check-walk_rows as link-row_check-walk_rows
 use Rattle.accept.proofs.TheLinks.accept-row_check-check_rows as link-row_check-check_rows
 use Rattle.accept.proofs.TheLinks.accept-entry_check-check_entry as link-entry_check-check_entry
-use Rattle.accept.proofs.TheLinks.accept-header_check-same_order as link-header_check-same_order
 use Rattle.accept.proofs.TheLinks.accept-header_check-wrong_abi as link-header_check-wrong_abi
 use Rattle.accept.proofs.TheLinks.accept-header_check-same_offset as link-header_check-same_offset
 use Rattle.accept.proofs.TheLinks.accept-header_check-wrong_fixed as link-header_check-wrong_fixed
@@ -30,6 +29,8 @@ use Rattle.accept.proofs.TheLinks.accept-section_check-check_turn as link-sectio
 use Rattle.accept.proofs.TheLinks.accept-section_check-check_each as link-section_check-check_each
 use Rattle.accept.proofs.TheLinks.accept-section_check-check_entries as link-section_check-check_entries
 use Rattle.accept.proofs.TheLinks.accept-section_check-check as link-section_check-check
+use Rattle.accept.proofs.TheLinks.accept-verdict-Rule-number as link-verdict-Rule-number
+use Rattle.accept.proofs.TheLinks.accept-verdict-RulePartialEq-eq as link-verdict-RulePartialEq-eq
 
 -- the functions with their code, before more
 abbrev pub entries : Entries → Entries
@@ -41,7 +42,6 @@ entries more =
     ("accept::row_check::walk_rows", link-row_check-walk_rows.entry) ∷
     ("accept::row_check::check_rows", link-row_check-check_rows.entry) ∷
     ("accept::entry_check::check_entry", link-entry_check-check_entry.entry) ∷
-    ("accept::header_check::same_order", link-header_check-same_order.entry) ∷
     ("accept::header_check::wrong_abi", link-header_check-wrong_abi.entry) ∷
     ("accept::header_check::same_offset", link-header_check-same_offset.entry) ∷
     ("accept::header_check::wrong_fixed", link-header_check-wrong_fixed.entry) ∷
@@ -55,6 +55,8 @@ entries more =
     ("accept::section_check::check_each", link-section_check-check_each.entry) ∷
     ("accept::section_check::check_entries", link-section_check-check_entries.entry) ∷
     ("accept::section_check::check", link-section_check-check.entry) ∷
+    ("accept::verdict::Rule::number", link-verdict-Rule-number.entry) ∷
+    ("accept::verdict::RulePartialEq::eq", link-verdict-RulePartialEq-eq.entry) ∷
     more
 
 -- a look-up finds them
@@ -66,7 +68,6 @@ pub record Finds (look : Symbol → Entry) : Type 0 where
   pub row_check_walk_rows : look "accept::row_check::walk_rows" ≡ link-row_check-walk_rows.entry
   pub row_check_check_rows : look "accept::row_check::check_rows" ≡ link-row_check-check_rows.entry
   pub entry_check_check_entry : look "accept::entry_check::check_entry" ≡ link-entry_check-check_entry.entry
-  pub header_check_same_order : look "accept::header_check::same_order" ≡ link-header_check-same_order.entry
   pub header_check_wrong_abi : look "accept::header_check::wrong_abi" ≡ link-header_check-wrong_abi.entry
   pub header_check_same_offset : look "accept::header_check::same_offset" ≡ link-header_check-same_offset.entry
   pub header_check_wrong_fixed : look "accept::header_check::wrong_fixed" ≡ link-header_check-wrong_fixed.entry
@@ -80,6 +81,8 @@ pub record Finds (look : Symbol → Entry) : Type 0 where
   pub section_check_check_each : look "accept::section_check::check_each" ≡ link-section_check-check_each.entry
   pub section_check_check_entries : look "accept::section_check::check_entries" ≡ link-section_check-check_entries.entry
   pub section_check_check : look "accept::section_check::check" ≡ link-section_check-check.entry
+  pub verdict_Rule_number : look "accept::verdict::Rule::number" ≡ link-verdict-Rule-number.entry
+  pub verdict_RulePartialEq_eq : look "accept::verdict::RulePartialEq::eq" ≡ link-verdict-RulePartialEq-eq.entry
 
 module _ (look : Symbol → Entry) (in_numbers : numbers.Finds look) (in_section : section.Finds look) (here : Finds look) where
   pub entry_check_wrong_entry_info : HasT look false link-entry_check-wrong_entry_info.code
@@ -103,11 +106,8 @@ module _ (look : Symbol → Entry) (in_numbers : numbers.Finds look) (in_section
   pub entry_check_check_entry : HasT look false link-entry_check-check_entry.code
   entry_check_check_entry = link-entry_check-check_entry.has look false here.entry_check_check_entry entry_check_wrong_entry_info entry_check_wrong_repeat row_check_check_rows (section.entry_type_of look in_numbers in_section)
 
-  pub header_check_same_order : HasT look false link-header_check-same_order.code
-  header_check_same_order = link-header_check-same_order.has look false here.header_check_same_order
-
   pub header_check_wrong_abi : HasT look false link-header_check-wrong_abi.code
-  header_check_wrong_abi = link-header_check-wrong_abi.has look false here.header_check_wrong_abi header_check_same_order (section.shape_abi_of look in_numbers in_section) (section.shape_shape_of look in_numbers in_section)
+  header_check_wrong_abi = link-header_check-wrong_abi.has look false here.header_check_wrong_abi (numbers.field_OrderPartialEq_eq look in_numbers) (section.shape_abi_of look in_numbers in_section) (section.shape_shape_of look in_numbers in_section)
 
   pub header_check_same_offset : HasT look false link-header_check-same_offset.code
   header_check_same_offset = link-header_check-same_offset.has look false here.header_check_same_offset
@@ -144,3 +144,9 @@ module _ (look : Symbol → Entry) (in_numbers : numbers.Finds look) (in_section
 
   pub section_check_check : HasT look false link-section_check-check.code
   section_check_check = link-section_check-check.has look false here.section_check_check header_check_check_header section_check_check_entries
+
+  pub verdict_Rule_number : HasT look false link-verdict-Rule-number.code
+  verdict_Rule_number = link-verdict-Rule-number.has look false here.verdict_Rule_number
+
+  pub verdict_RulePartialEq_eq : HasT look false link-verdict-RulePartialEq-eq.code
+  verdict_RulePartialEq_eq = link-verdict-RulePartialEq-eq.has look false here.verdict_RulePartialEq_eq

@@ -18,7 +18,7 @@ use Rattle.section.specs.Inner.Reading.{Readable}
 use Rattle.section.specs.declared.entry.Entry.{Entry}
 use Rattle.section.specs.declared.shape.Shape.{Shape}
 use Rattle.accept.specs.Computed.Checks.{wrong_entry_info, entry_tests, wrong_row_info, row_tests, row_fault, low_of, row_fault_in, rows_fault, entry_fault}
-use Rattle.accept.specs.declared.verdict.Fault.TheVariants.{Sound}
+use Rattle.accept.specs.Fault.{Sound}
 use Rattle.accept.proofs.Decides.{Decides, not_below, positive, unset, none_of, where_set}
 use Rattle.accept.proofs.FaultLaws.{end, line, table_sound, and_sound, fault_sound, each_sound}
 use Rattle.accept.proofs.InOrder.{in_order}

@@ -11,8 +11,7 @@ use Rattle.section.specs.Row.{row_start}
 use Rattle.section.specs.declared.entry.Entry.{Entry}
 use Rattle.section.specs.declared.shape.Shape.{Shape}
 use Rattle.accept.specs.Computed.Checks.{first_bad, and_then, entry_tests, row_tests, row_fault, rows_fault, entry_fault}
-use Rattle.accept.specs.declared.verdict.Fault.{Fault}
-use Rattle.accept.specs.declared.verdict.Fault.TheVariants.{Sound, Breaks}
+use Rattle.accept.specs.Fault.{Fault, Sound, Breaks}
 
 pub test_true : {test : Bool} (number : ℕ) (tests : List (Bool × ℕ)) → test ≡ true → first_bad ((test, number) ∷ tests) ≡ Breaks number
 unfolding first_bad

@@ -19,8 +19,7 @@ use Rattle.section.proofs.PartAgreement.{magic_agrees, order_agrees, marks_agree
 use Rattle.section.proofs.RowAgreement.{start_agrees, info_agrees, length_agrees}
 use Rattle.accept.specs.Tried.{RowTried, TriedAt, CheckAlike}
 use Rattle.accept.specs.Computed.Checks.{given_at, then_try, first_of, fault_of, header_tests, header_fault, entry_tests, row_tests, row_fault, low_of, row_fault_in, rows_fault, entry_fault, out_of_order, turn_fault, rows_below, sum_fault, entries_verdict, verdict}
-use Rattle.accept.specs.declared.verdict.Fault.{Fault}
-use Rattle.accept.specs.declared.verdict.Fault.TheVariants.{Sound, Breaks}
+use Rattle.accept.specs.Fault.{Fault, Sound, Breaks}
 
 -- ---- the first fault of two lists of things that are alike up to it
 

@@ -17,8 +17,8 @@ use Rattle.numbers.proofs.HeldLaws.{overlaps, follows}
 use Rattle.section.specs.Header.{layout_of}
 use Rattle.section.specs.Meaning.{area_of, shape_of, entry_in, function_start}
 use Rattle.accept.specs.Computed.Checks.{first_bad, and_then, given_at, then_try, first_of, entry_fault, out_of_order, turn_fault, rows_below, sum_fault, entries_verdict}
-use Rattle.accept.specs.declared.verdict.Fault.TheVariants.{Sound, Breaks}
-use Rattle.accept.specs.declared.verdict.Verdict.TheVariants.{Refused}
+use Rattle.accept.specs.Fault.{Sound, Breaks}
+use Rattle.accept.specs.Verdict.{Refused}
 use Rattle.accept.proofs.FaultLaws.{left_goes_on, left_stops, left_ends}
 
 -- `low` holds where the entry before entry i ends, and is 0 before the first

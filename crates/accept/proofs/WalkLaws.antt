@@ -12,7 +12,7 @@ use borrow.Author.Tests.{lt-ltb, le-ltb}
 use Rattle.section.specs.Row.{row_length, row_place, row_start}
 use Rattle.section.specs.declared.shape.Shape.{Shape}
 use Rattle.accept.specs.Computed.Checks.{first_bad, fault_of, first_of, row_tests, row_fault, low_of, row_fault_in, rows_fault}
-use Rattle.accept.specs.declared.verdict.Fault.TheVariants.{Sound, Breaks}
+use Rattle.accept.specs.Fault.{Sound, Breaks}
 use Rattle.accept.proofs.FaultLaws.{left_goes_on, left_stops, left_ends}
 use Rattle.accept.proofs.RowLaws.{RowSound, row_sound}
 use Rattle.accept.proofs.TableLaws.{test_true, test_false, no_test, row_by_start}

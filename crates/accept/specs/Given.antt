@@ -2,44 +2,27 @@
 -- document 01 tries earlier is.
 use Rattle.std.specs.Prelude.{◌≡◌, ◌⊎◌, List, [], ◌∷◌, ℕ, ◌≤◌, ◌<◌}
 use Rattle.accept.specs.Rules.{function_count, row_count, Rule1, Rule2, Rule3, Rule4, Rule5, Rule6, Rule7, Rule8, Rule9, Rule10, Rule11First, Rule11Fixed, Rule11Offsets, Rule12, Rule13, Rule14, Rule15, HeaderObeys, RowObeys, EntryObeys}
-use Rattle.accept.specs.declared.verdict.Verdict.{Verdict}
-use Rattle.accept.specs.declared.verdict.Verdict.TheVariants.{Accepted, Refused}
+use Rattle.accept.specs.declared.verdict.Rule.{Rule}
+use Rattle.accept.specs.declared.verdict.Rule.TheVariants.{Short, Long, Magic, Version, Flags, Abi, Fixed, Sizes, EntryInfo, RepeatSize, RowsInside, RowInfo, RowsRising, Sorted, RowSum}
+use Rattle.accept.specs.Verdict.{Verdict, Accepted, Refused}
 
--- the rules by name, in document 01's order
-pub data Rule : Type 0 where
-  short : Rule
-  long : Rule
-  magic : Rule
-  version : Rule
-  flags : Rule
-  abi : Rule
-  fixed : Rule
-  sizes : Rule
-  entry_info : Rule
-  repeat_size : Rule
-  rows_inside : Rule
-  row_info : Rule
-  rows_rising : Rule
-  sorted : Rule
-  row_sum : Rule
-
--- their numbers
+-- ---- their numbers
 unfoldable pub number_of_rule : Rule → ℕ
-number_of_rule short = 1
-number_of_rule long = 2
-number_of_rule magic = 3
-number_of_rule version = 4
-number_of_rule flags = 5
-number_of_rule abi = 6
-number_of_rule fixed = 7
-number_of_rule sizes = 8
-number_of_rule entry_info = 9
-number_of_rule repeat_size = 10
-number_of_rule rows_inside = 11
-number_of_rule row_info = 12
-number_of_rule rows_rising = 13
-number_of_rule sorted = 14
-number_of_rule row_sum = 15
+number_of_rule Short = 1
+number_of_rule Long = 2
+number_of_rule Magic = 3
+number_of_rule Version = 4
+number_of_rule Flags = 5
+number_of_rule Abi = 6
+number_of_rule Fixed = 7
+number_of_rule Sizes = 8
+number_of_rule EntryInfo = 9
+number_of_rule RepeatSize = 10
+number_of_rule RowsInside = 11
+number_of_rule RowInfo = 12
+number_of_rule RowsRising = 13
+number_of_rule Sorted = 14
+number_of_rule RowSum = 15
 
 -- document 01's number of a verdict, 0 where accepted, and what it carries: "its number and the entry's index"
 unfoldable pub verdict_number : Verdict → ℕ
@@ -77,22 +60,22 @@ RowEndsPast s i k = (¬ Rule11Fixed s i k) ⊎ (Rule11Fixed s i k × Rule12 s i 
 
 -- the rule of this name is the first broken one, in entry i; "0 for 1 to 8 and 15"
 abbrev pub Given : List ℕ → Rule → ℕ → Type 0
-Given s short i = (i ≡ 0) × ¬ Rule1 s
-Given s long i = (i ≡ 0) × Rule1 s × ¬ Rule2 s
-Given s magic i = (i ≡ 0) × Rule1 s × Rule2 s × ¬ Rule3 s
-Given s version i = (i ≡ 0) × Rule1 s × Rule2 s × Rule3 s × ¬ Rule4 s
-Given s flags i = (i ≡ 0) × Rule1 s × Rule2 s × Rule3 s × Rule4 s × ¬ Rule5 s
-Given s abi i = (i ≡ 0) × Rule1 s × Rule2 s × Rule3 s × Rule4 s × Rule5 s × ¬ Rule6 s
-Given s fixed i = (i ≡ 0) × Rule1 s × Rule2 s × Rule3 s × Rule4 s × Rule5 s × Rule6 s × ¬ Rule7 s
-Given s sizes i = (i ≡ 0) × Rule1 s × Rule2 s × Rule3 s × Rule4 s × Rule5 s × Rule6 s × Rule7 s × ¬ Rule8 s
-Given s entry_info i = Reached s i × ¬ Rule9 s i
-Given s repeat_size i = Reached s i × Rule9 s i × ¬ Rule10 s i
-Given s rows_inside i =
+Given s Short i = (i ≡ 0) × ¬ Rule1 s
+Given s Long i = (i ≡ 0) × Rule1 s × ¬ Rule2 s
+Given s Magic i = (i ≡ 0) × Rule1 s × Rule2 s × ¬ Rule3 s
+Given s Version i = (i ≡ 0) × Rule1 s × Rule2 s × Rule3 s × ¬ Rule4 s
+Given s Flags i = (i ≡ 0) × Rule1 s × Rule2 s × Rule3 s × Rule4 s × ¬ Rule5 s
+Given s Abi i = (i ≡ 0) × Rule1 s × Rule2 s × Rule3 s × Rule4 s × Rule5 s × ¬ Rule6 s
+Given s Fixed i = (i ≡ 0) × Rule1 s × Rule2 s × Rule3 s × Rule4 s × Rule5 s × Rule6 s × ¬ Rule7 s
+Given s Sizes i = (i ≡ 0) × Rule1 s × Rule2 s × Rule3 s × Rule4 s × Rule5 s × Rule6 s × Rule7 s × ¬ Rule8 s
+Given s EntryInfo i = Reached s i × ¬ Rule9 s i
+Given s RepeatSize i = Reached s i × Rule9 s i × ¬ Rule10 s i
+Given s RowsInside i =
     (Reached s i × Rule9 s i × Rule10 s i × ¬ Rule11First s i) ⊎ ((k : ℕ) × RowReached s i k × RowEndsPast s i k)
-Given s row_info i = (k : ℕ) × RowReached s i k × Rule11Fixed s i k × ¬ Rule12 s i k
-Given s rows_rising i = (k : ℕ) × RowReached s i k × Rule11Fixed s i k × Rule12 s i k × Rule11Offsets s i k × ¬ Rule13 s i k
-Given s sorted i = RowsReached s i × ((k : ℕ) → k < row_count s i → RowObeys s i k) × ¬ Rule14 s i
-Given s row_sum i = (i ≡ 0) × HeaderObeys s × ((j : ℕ) → j < function_count s → EntryObeys s j) × ¬ Rule15 s
+Given s RowInfo i = (k : ℕ) × RowReached s i k × Rule11Fixed s i k × ¬ Rule12 s i k
+Given s RowsRising i = (k : ℕ) × RowReached s i k × Rule11Fixed s i k × Rule12 s i k × Rule11Offsets s i k × ¬ Rule13 s i k
+Given s Sorted i = RowsReached s i × ((k : ℕ) → k < row_count s i → RowObeys s i k) × ¬ Rule14 s i
+Given s RowSum i = (i ≡ 0) × HeaderObeys s × ((j : ℕ) → j < function_count s → EntryObeys s j) × ¬ Rule15 s
 
 -- the rule is the first broken one, in the entry with some index
 abbrev pub BrokenFirst : List ℕ → Rule → Type 0

@@ -1,5 +1,8 @@
+pub mod Fault
 pub mod Given
 pub mod Rules
+pub mod Told
 pub mod Tried
+pub mod Verdict
 pub mod Computed
 pub mod Inner

@@ -9,7 +9,7 @@ use Rattle.section.specs.Meaning.{area_of, shape_of, entry_in}
 use Rattle.section.specs.Row.{row_place}
 use Rattle.section.specs.declared.shape.Shape.{Shape}
 use Rattle.accept.specs.Computed.Checks.{row_fault_in}
-use Rattle.accept.specs.declared.verdict.Fault.TheVariants.{Sound}
+use Rattle.accept.specs.Fault.{Sound}
 
 -- row k is tried: no row before it has a fault
 abbrev pub RowTried : List ℕ → Shape → ℕ → ℕ → ℕ → ℕ → Type 0

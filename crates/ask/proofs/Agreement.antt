@@ -21,8 +21,7 @@ use Rattle.section.proofs.PartAgreement.{order_agrees, layout_agrees, shape_agre
 use Rattle.accept.specs.Rules.{function_count, row_count, row_length_at, Rule9, Rule10, Rule11First}
 use Rattle.accept.specs.Tried.{TriedAt}
 use Rattle.accept.specs.Computed.Checks.{first_bad, and_then, header_fault, entry_tests, entry_fault}
-use Rattle.accept.specs.declared.verdict.Fault.{Fault}
-use Rattle.accept.specs.declared.verdict.Fault.TheVariants.{Sound, Breaks}
+use Rattle.accept.specs.Fault.{Fault, Sound, Breaks}
 use Rattle.accept.proofs.Exactly.{header_exactly_when, row_exactly_when}
 use Rattle.accept.proofs.FaultLaws.{table_sound}
 use Rattle.accept.proofs.RuleLaws.{entry_table}

@@ -11,7 +11,7 @@ use Rattle.section.specs.Header.{layout_of}
 use Rattle.section.specs.Meaning.{function_in, functions_of}
 use Rattle.accept.specs.Rules.{function_count}
 use Rattle.accept.specs.Computed.Checks.{verdict}
-use Rattle.accept.specs.declared.verdict.Verdict.TheVariants.{Accepted}
+use Rattle.accept.specs.Verdict.{Accepted}
 use Rattle.accept.proofs.AcceptedLaws.{accepted_laws}
 use Rattle.lookup.specs.Halving.{empty_function, landing, compared}
 use Rattle.lookup.specs.Numbers.{outcome_number, outcome_indexes, outcome_row}

@@ -11,11 +11,11 @@ use lib.IntN.{ℤ}
 use Rattle.numbers.specs.Start.{distance}
 use Rattle.section.specs.Header.{layout_of}
 use Rattle.section.specs.Meaning.{area_of, shape_of, entry_in, function_in, functions_of}
-use Rattle.accept.specs.Given.{Rule, number_of_rule, HeaderBreaks}
+use Rattle.accept.specs.Given.{number_of_rule, HeaderBreaks}
+use Rattle.accept.specs.declared.verdict.Rule.{Rule}
 use Rattle.accept.specs.Rules.{function_count, HeaderObeys}
 use Rattle.accept.specs.Computed.Checks.{header_fault, entry_fault}
-use Rattle.accept.specs.declared.verdict.Fault.{Fault}
-use Rattle.accept.specs.declared.verdict.Fault.TheVariants.{Sound, Breaks}
+use Rattle.accept.specs.Fault.{Fault, Sound, Breaks}
 use Rattle.accept.proofs.Exactly.{header_exactly_when, entry_exactly_when, number_of_rule_lem}
 use Rattle.accept.proofs.FaultLaws.{sound_or_breaks}
 use Rattle.accept.proofs.HeaderLaws.{number_of_fault, breaks_not_obeys, fault_due, fault_makes, fault_none}

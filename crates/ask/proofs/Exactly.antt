@@ -11,7 +11,8 @@ use lib.Dec.{eqb}
 use lib.IntN.{ℤ}
 use Rattle.numbers.specs.Start.{distance}
 use Rattle.section.specs.declared.row.Row.{Row}
-use Rattle.accept.specs.Given.{Rule, number_of_rule, HeaderBreaks}
+use Rattle.accept.specs.Given.{number_of_rule, HeaderBreaks}
+use Rattle.accept.specs.declared.verdict.Rule.{Rule}
 use Rattle.accept.proofs.CauseLaws.{Distinct, Due, due_exactly_when}
 use Rattle.accept.proofs.Exactly.{number_of_rule_lem, by_number}
 use Rattle.lookup.specs.Cases.{Covers}

@@ -17,8 +17,7 @@ use Rattle.section.specs.Meaning.{listed, functions_of}
 use Rattle.section.proofs.ListedLaws.{listed_length}
 use Rattle.accept.specs.Rules.{function_count}
 use Rattle.accept.specs.Computed.Checks.{header_fault}
-use Rattle.accept.specs.declared.verdict.Fault.{Fault}
-use Rattle.accept.specs.declared.verdict.Fault.TheVariants.{Sound, Breaks}
+use Rattle.accept.specs.Fault.{Fault, Sound, Breaks}
 use Rattle.accept.proofs.AcceptedLaws.{few_functions, area_inside, entry_inside}
 use Rattle.accept.proofs.Exactly.{header_exactly_when}
 use Rattle.accept.proofs.HeaderLaws.{breaks_not_obeys}

@@ -17,8 +17,7 @@ use Rattle.section.specs.Inner.Reading.{Readable}
 use Rattle.section.specs.declared.entry.Entry.{Entry}
 use Rattle.section.specs.declared.shape.Shape.{Shape}
 use Rattle.accept.specs.Computed.Checks.{first_bad, entry_tests, rows_fault, entry_fault}
-use Rattle.accept.specs.declared.verdict.Fault.{Fault}
-use Rattle.accept.specs.declared.verdict.Fault.TheVariants.{Sound, Breaks}
+use Rattle.accept.specs.Fault.{Fault, Sound, Breaks}
 use Rattle.accept.proofs.Decides.{Decides, not_below, positive, none_of, where_set}
 use Rattle.accept.proofs.FaultLaws.{end, line, table_sound, and_sound}
 use Rattle.accept.proofs.RowLaws.{entry_info_decides, entry_sound}

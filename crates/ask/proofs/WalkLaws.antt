@@ -11,7 +11,7 @@ use Rattle.numbers.specs.declared.field.Order.{Order}
 use Rattle.section.specs.Row.{row_place}
 use Rattle.section.specs.declared.shape.Shape.{Shape}
 use Rattle.accept.specs.Computed.Checks.{rows_fault}
-use Rattle.accept.specs.declared.verdict.Fault.TheVariants.{Sound, Breaks}
+use Rattle.accept.specs.Fault.{Sound, Breaks}
 use Rattle.lookup.specs.Scanned.{start_in}
 use Rattle.lookup.specs.declared.rows.Stop.{Stop}
 use Rattle.lookup.specs.Inner.Search.{stop_of}

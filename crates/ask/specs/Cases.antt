@@ -4,7 +4,8 @@ use Rattle.std.specs.Prelude.{◌≡◌, true, false, List, ℕ, suc, ◌<◌, �
 use Rattle.section.specs.Header.{layout_of}
 use Rattle.section.specs.Meaning.{functions_of}
 use Rattle.section.specs.declared.row.Row.{Row}
-use Rattle.accept.specs.Given.{Rule, number_of_rule, HeaderBreaks}
+use Rattle.accept.specs.Given.{number_of_rule, HeaderBreaks}
+use Rattle.accept.specs.declared.verdict.Rule.{Rule}
 use Rattle.accept.specs.Rules.{row_count, Rule9, Rule10, Rule11First, HeaderObeys, RowObeys}
 use Rattle.lookup.specs.Cases.{Covers, OffsetIs, LastAtMost, NoneAtMost, row_of_function}
 use Rattle.lookup.specs.Halving.{landing}

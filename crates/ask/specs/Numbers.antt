@@ -2,7 +2,8 @@
 -- number and what it carries.
 use Rattle.std.specs.Prelude.{ℕ, ◌≡◌, List, [], ◌∷◌}
 use Rattle.section.specs.declared.row.Row.{Row}
-use Rattle.accept.specs.Given.{Rule, number_of_rule}
+use Rattle.accept.specs.Given.{number_of_rule}
+use Rattle.accept.specs.declared.verdict.Rule.{Rule}
 use Rattle.lookup.specs.Numbers as lookup
 use Rattle.lookup.specs.Numbers.{number_of_unfound, outcome_number, outcome_indexes, outcome_row}
 use Rattle.lookup.specs.declared.answer.Answer.{Answer}

@@ -15,7 +15,8 @@ use Rattle.section.specs.Row.{count_of}
 use Rattle.section.specs.declared.row.Row.{Row}
 use Rattle.section.specs.declared.shape.Shape.{Shape}
 use Rattle.accept.specs.Given as accept
-use Rattle.accept.specs.Given.{Rule, number_of_rule, BrokenFirst}
+use Rattle.accept.specs.Given.{number_of_rule, BrokenFirst}
+use Rattle.accept.specs.declared.verdict.Rule.{Rule}
 use Rattle.accept.specs.Rules.{Obeys, row_info_at}
 use Rattle.accept.proofs.Exactly.{accepted_exactly_when, given_exactly_when, by_number}
 use Rattle.accept.proofs.FaultLaws.{accepted_or_refused}

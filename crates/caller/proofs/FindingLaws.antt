@@ -11,7 +11,7 @@ use Rattle.numbers.specs.Start.{distance}
 use Rattle.section.specs.declared.row.Row.{Row}
 use Rattle.accept.specs.Rules.{Obeys}
 use Rattle.accept.specs.Computed.Checks.{verdict}
-use Rattle.accept.specs.declared.verdict.Verdict.TheVariants.{Accepted}
+use Rattle.accept.specs.Verdict.{Accepted}
 use Rattle.accept.proofs.Exactly.{accepted_exactly_when}
 use Rattle.lookup.specs.Cases.{FoundCase, UnfoundCase}
 use Rattle.lookup.specs.Finding.{finds, refuses, finding_of}

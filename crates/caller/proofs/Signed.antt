@@ -18,8 +18,8 @@ use Rattle.section.specs.declared.shape.Abi.TheVariants.{Amd64}
 use Rattle.section.specs.declared.shape.Shape.{Shape}
 use Rattle.accept.specs.Rules.{Obeys}
 use Rattle.accept.specs.Computed.Checks.{verdict}
-use Rattle.accept.specs.declared.verdict.Verdict.{Verdict}
-use Rattle.accept.specs.declared.verdict.Verdict.TheVariants as verdict
+use Rattle.accept.specs.Verdict.{Verdict}
+use Rattle.accept.specs.Verdict as verdict
 use Rattle.accept.proofs.Exactly.{accepted_exactly_when}
 use Rattle.lookup.specs.Finding.{Finding, finds, refuses}
 use Rattle.lookup.specs.Computed.Answers.{look_in}

@@ -12,7 +12,8 @@ use Rattle.section.specs.declared.row.Row.{Row}
 use Rattle.section.specs.declared.shape.Abi.{Abi}
 use Rattle.section.specs.declared.shape.Abi.TheVariants.{Aarch64Big, Aarch64Little}
 use Rattle.section.specs.declared.shape.Shape.{Shape}
-use Rattle.accept.specs.Given.{Rule, number_of_rule, BrokenFirst}
+use Rattle.accept.specs.Given.{number_of_rule, BrokenFirst}
+use Rattle.accept.specs.declared.verdict.Rule.{Rule}
 use Rattle.accept.specs.Given as accept
 use Rattle.accept.specs.Rules.{Obeys}
 use Rattle.lookup.specs.Cases.{NoneCovers, SomeTwoCover, FoundCase, NoRowCase}

@@ -1,7 +1,8 @@
 -- The numbers of a step (SPECIFICATION 5.3 to 5.12): why there is no caller, by name, and document 01's number of each cause; and of
 -- each answer the number and what it carries.
 use Rattle.std.specs.Prelude.{ℕ, List, [], ◌∷◌}
-use Rattle.accept.specs.Given.{Rule, number_of_rule}
+use Rattle.accept.specs.Given.{number_of_rule}
+use Rattle.accept.specs.declared.verdict.Rule.{Rule}
 use Rattle.lookup.specs.Numbers.{Unfound, number_of_unfound}
 use Rattle.caller.specs.declared.registers.Registers.{Registers}
 use Rattle.caller.specs.declared.registers.Step.{Step}

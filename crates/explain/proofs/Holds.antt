@@ -21,8 +21,8 @@ use Rattle.section.specs.declared.row.Place.TheVariants.{AtOffset}
 use Rattle.section.specs.declared.row.Row.{Row}
 use Rattle.accept.specs.Rules.{row_count, row_start_at}
 use Rattle.accept.specs.Computed.Checks.{verdict}
-use Rattle.accept.specs.declared.verdict.Verdict.{Verdict}
-use Rattle.accept.specs.declared.verdict.Verdict.TheVariants as verdict
+use Rattle.accept.specs.Verdict.{Verdict}
+use Rattle.accept.specs.Verdict as verdict
 use Rattle.accept.proofs.Exactly.{accepted_exactly_when, refused_by_a_rule}
 use Rattle.lookup.specs.Computed.Answers.{with_row, with_cover, outcome}
 use Rattle.lookup.specs.Computed.Covering.{covering, cover_of}

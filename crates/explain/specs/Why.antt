@@ -7,7 +7,8 @@ use Rattle.numbers.specs.declared.offset.Offset.{Offset}
 use Rattle.section.specs.Meaning.{shape_of}
 use Rattle.section.specs.declared.row.Place.TheVariants.{Register, AtOffset}
 use Rattle.section.specs.declared.row.Row.{Row}
-use Rattle.accept.specs.Given.{Rule, number_of_rule}
+use Rattle.accept.specs.Given.{number_of_rule}
+use Rattle.accept.specs.declared.verdict.Rule.{Rule}
 use Rattle.accept.specs.Given as accept
 use Rattle.accept.specs.Rules.{Obeys, row_count, row_start_at}
 use Rattle.lookup.specs.Cases.{Covers, NoneCovers, OnlyCovers, OffsetIs, row_of_function}

@@ -6,7 +6,7 @@ ghost use Rattle.section.specs.Meaning.{functions_of};
 ghost use Rattle.section.specs.Row.{row_place};
 ghost use Rattle.section.specs.Inner.Reading.{Readable};
 ghost use Rattle.accept.specs.Computed.Checks.{entry_fault};
-ghost use Rattle.accept.specs.declared.verdict.Fault.TheVariants.{Sound};
+ghost use Rattle.accept.specs.Fault.{Sound};
 ghost use Rattle.lookup.specs.Computed.Covering.{covering, cover_of};
 ghost use Rattle.lookup.specs.Inner.Requires.{HeaderOf, AcceptedOf, RowAsked};
 ghost use Rattle.explain.specs.Computed.Lookup.{start_in, by_scan, in_function, alone_why, no_function_why, by_cover, looked_of, lookup_why};

@@ -14,7 +14,7 @@ use Rattle.section.specs.declared.entry.Entry.{Entry}
 use Rattle.section.specs.declared.header.Layout.{Layout}
 use Rattle.accept.specs.Rules.{HeaderObeys}
 use Rattle.accept.specs.Computed.Checks.{header_fault}
-use Rattle.accept.specs.declared.verdict.Fault.TheVariants.{Sound}
+use Rattle.accept.specs.Fault.{Sound}
 use Rattle.accept.proofs.AcceptedLaws.{area_inside}
 use Rattle.accept.proofs.Exactly.{header_exactly_when}
 use Rattle.listing.specs.Functions.{kind_of, rows_place, facts_of}

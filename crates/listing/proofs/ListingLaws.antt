@@ -11,7 +11,7 @@ use Rattle.section.specs.Header.{layout_of}
 use Rattle.section.specs.Meaning.{listed, function_in, functions_of}
 use Rattle.accept.specs.Rules.{function_count, Obeys}
 use Rattle.accept.specs.Computed.Checks.{verdict}
-use Rattle.accept.specs.declared.verdict.Verdict.TheVariants.{Accepted, Refused}
+use Rattle.accept.specs.Verdict.{Accepted, Refused}
 use Rattle.accept.proofs.AcceptedLaws.{area_inside}
 use Rattle.accept.proofs.Exactly.{accepted_exactly_when}
 use Rattle.listing.specs.Functions.{facts_of}

@@ -10,7 +10,7 @@ use Rattle.section.specs.Header.{layout_of}
 use Rattle.section.specs.Meaning.{function_in}
 use Rattle.accept.specs.Rules.{function_count, Obeys}
 use Rattle.accept.specs.Computed.Checks.{verdict}
-use Rattle.accept.specs.declared.verdict.Verdict.TheVariants.{Refused}
+use Rattle.accept.specs.Verdict.{Refused}
 use Rattle.accept.proofs.Exactly.{accepted_exactly_when, header_exactly_when}
 use Rattle.listing.specs.Functions.{rows_place, facts_of, described_in, described_by, described_of}
 use Rattle.listing.specs.Computed.Reader.{place_in, place_by, place_of}

@@ -5,8 +5,7 @@ use Rattle.std.specs.Prelude.{ℕ, zero, suc, true, false, List, [], ◌∷◌, 
 use Rattle.section.specs.Meaning.{Function, functions_of}
 use Rattle.section.specs.declared.row.Row.{Row}
 use Rattle.accept.specs.Computed.Checks.{verdict}
-use Rattle.accept.specs.declared.verdict.Verdict.{Verdict}
-use Rattle.accept.specs.declared.verdict.Verdict.TheVariants.{Accepted, Refused}
+use Rattle.accept.specs.Verdict.{Verdict, Accepted, Refused}
 use Rattle.listing.specs.Functions.{kind_of}
 use Rattle.listing.specs.declared.lines.FunctionLine.{FunctionLine}
 use Rattle.listing.specs.declared.lines.Line.{Line}

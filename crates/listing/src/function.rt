@@ -3,7 +3,7 @@ ghost use Rattle.std.specs.Prelude.{◌≡◌};
 ghost use Rattle.section.specs.Header.{layout_of};
 ghost use Rattle.section.specs.Meaning.{block_of};
 ghost use Rattle.accept.specs.Computed.Checks.{header_fault};
-ghost use Rattle.accept.specs.declared.verdict.Fault.TheVariants.{Sound};
+ghost use Rattle.accept.specs.Fault.{Sound};
 ghost use Rattle.listing.specs.Functions.{kind_of, facts_of, described_in, described_of};
 ghost use Rattle.listing.specs.Inner.Requires.{EntryThere};
 

@@ -14,7 +14,7 @@ use Rattle.section.specs.Meaning.{area_of, shape_of, entry_in, function_in, func
 use Rattle.section.proofs.PartAgreement.{layout_agrees, shape_agrees, entries_agree}
 use Rattle.accept.specs.Rules.{function_count}
 use Rattle.accept.specs.Computed.Checks.{verdict}
-use Rattle.accept.specs.declared.verdict.Verdict.TheVariants.{Accepted}
+use Rattle.accept.specs.Verdict.{Accepted}
 use Rattle.accept.proofs.AcceptedLaws.{accepted_laws}
 use Rattle.lookup.specs.Cases.{Covers}
 use Rattle.lookup.specs.Halving.{empty_function, starts_at_most, landing, compared}

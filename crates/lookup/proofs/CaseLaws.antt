@@ -18,7 +18,7 @@ use Rattle.section.specs.declared.row.Row.{Row}
 use Rattle.section.proofs.ListedLaws.{functions_length, functions_get}
 use Rattle.accept.specs.Rules.{function_count, row_count, row_start_at}
 use Rattle.accept.specs.Computed.Checks.{verdict}
-use Rattle.accept.specs.declared.verdict.Verdict.TheVariants.{Accepted}
+use Rattle.accept.specs.Verdict.{Accepted}
 use Rattle.accept.proofs.AcceptedLaws.{accepted_laws}
 use Rattle.lookup.specs.Cases.{Covers, NoneCovers, OnlyCovers, SomeTwoCover, LowestTwo, LastAtMost, NoneAtMost, OffsetIs, row_of_function, FoundCase, NoRowCase, Case}
 use Rattle.lookup.specs.Halving.{empty_function}

@@ -11,7 +11,7 @@ use Rattle.section.specs.Inner.Reading.{Readable}
 use Rattle.section.specs.declared.entry.Entry.{Entry}
 use Rattle.section.specs.declared.shape.Shape.{Shape}
 use Rattle.accept.specs.Computed.Checks.{entry_fault}
-use Rattle.accept.specs.declared.verdict.Fault.TheVariants.{Sound}
+use Rattle.accept.specs.Fault.{Sound}
 use Rattle.accept.proofs.RowLaws.{entry_readable, entry_rising}
 use Rattle.lookup.specs.Computed.Rows.{last_row}
 use Rattle.lookup.specs.Inner.Search.{stop_of}

@@ -13,8 +13,7 @@ use Rattle.section.specs.Meaning.{functions_of}
 use Rattle.section.specs.declared.row.Row.{Row}
 use Rattle.accept.specs.Rules.{function_count}
 use Rattle.accept.specs.Computed.Checks.{verdict}
-use Rattle.accept.specs.declared.verdict.Verdict.{Verdict}
-use Rattle.accept.specs.declared.verdict.Verdict.TheVariants.{Accepted, Refused}
+use Rattle.accept.specs.Verdict.{Verdict, Accepted, Refused}
 use Rattle.accept.proofs.AcceptedLaws.{accepted_laws}
 use Rattle.lookup.specs.Cases.{NoneCovers, SomeTwoCover, LowestTwo, FoundCase, NoRowCase, Case}
 use Rattle.lookup.specs.Halving.{landing, compared}

@@ -16,7 +16,7 @@ use Rattle.section.specs.declared.header.Layout.{Layout}
 use Rattle.section.proofs.ListedLaws.{functions_length, functions_get}
 use Rattle.accept.specs.Rules.{function_count}
 use Rattle.accept.specs.Computed.Checks.{entry_fault}
-use Rattle.accept.specs.declared.verdict.Fault.TheVariants.{Sound}
+use Rattle.accept.specs.Fault.{Sound}
 use Rattle.accept.proofs.AcceptedLaws.{accepted_laws}
 use Rattle.accept.proofs.Exactly.{header_exactly_when}
 use Rattle.lookup.specs.Halving.{empty_function}

@@ -11,7 +11,7 @@ use Rattle.section.specs.declared.row.Row.{Row}
 use Rattle.accept.specs.Given.{number_of_rule}
 use Rattle.accept.specs.Rules.{Obeys}
 use Rattle.accept.specs.Computed.Checks.{verdict}
-use Rattle.accept.specs.declared.verdict.Verdict.TheVariants.{Accepted}
+use Rattle.accept.specs.Verdict.{Accepted}
 use Rattle.accept.proofs.CauseLaws.{Distinct, Due, due_exactly_when}
 use Rattle.accept.proofs.Exactly.{accepted_exactly_when, given_exactly_when, obeys_or_refusal, number_of_rule_lem, by_number}
 use Rattle.lookup.specs.Cases.{NoneCovers, OnlyCovers, LowestTwo, FoundCase, Case, UnfoundCase, OnLookup}

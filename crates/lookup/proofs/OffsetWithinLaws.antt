@@ -17,7 +17,7 @@ use Rattle.section.specs.Meaning.{Block, plain, repeated, block_of, entry_in, fu
 use Rattle.section.specs.declared.entry.Entry.{Entry}
 use Rattle.accept.specs.Rules.{Rule10}
 use Rattle.accept.specs.Computed.Checks.{verdict}
-use Rattle.accept.specs.declared.verdict.Verdict.TheVariants.{Accepted}
+use Rattle.accept.specs.Verdict.{Accepted}
 use Rattle.accept.proofs.Exactly.{accepted_exactly_when}
 use Rattle.lookup.specs.Cases.{Covers, Leaves, OffsetIs}
 use Rattle.lookup.specs.Computed.Rows.{in_block, offset_within}

@@ -19,7 +19,7 @@ use Rattle.section.specs.declared.entry.Entry.{Entry}
 use Rattle.section.specs.declared.shape.Shape.{Shape}
 use Rattle.section.proofs.RowAgreement.{start_agrees, length_agrees, row_agrees}
 use Rattle.accept.specs.Computed.Checks.{entry_fault}
-use Rattle.accept.specs.declared.verdict.Fault.TheVariants.{Sound}
+use Rattle.accept.specs.Fault.{Sound}
 use Rattle.accept.proofs.RowLaws.{entry_readable}
 use Rattle.lookup.specs.Scanned.{start_in, RowPassed, LastPassed, StopsAt, LookedAt, of_passed, of_found, of_stop}
 use Rattle.lookup.specs.Computed.Rows.{last_row}

@@ -15,7 +15,7 @@ use Rattle.section.specs.Meaning.{Function, function_in, functions_of}
 use Rattle.section.proofs.ListedLaws.{functions_length, functions_get}
 use Rattle.accept.specs.Rules.{function_count}
 use Rattle.accept.specs.Computed.Checks.{verdict}
-use Rattle.accept.specs.declared.verdict.Verdict.TheVariants.{Accepted}
+use Rattle.accept.specs.Verdict.{Accepted}
 use Rattle.accept.proofs.AcceptedLaws.{accepted_laws, pass_on, no_less}
 use Rattle.accept.proofs.Decides.{Shows}
 use Rattle.lookup.specs.Halving.{empty_function, starts_at_most, landing}

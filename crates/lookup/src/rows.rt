@@ -5,7 +5,7 @@ ghost use Rattle.section.specs.Meaning.{listed, row_in};
 ghost use Rattle.section.specs.Row.{info_of, row_place};
 ghost use Rattle.section.specs.Inner.Reading.{Readable};
 ghost use Rattle.accept.specs.Computed.Checks.{entry_fault};
-ghost use Rattle.accept.specs.declared.verdict.Fault.TheVariants.{Sound};
+ghost use Rattle.accept.specs.Fault.{Sound};
 ghost use Rattle.lookup.specs.Computed.Rows.{last_row};
 ghost use Rattle.lookup.specs.Inner.Search.{starts_by, told_by, stop_of};
 

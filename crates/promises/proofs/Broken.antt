@@ -12,9 +12,10 @@ use borrow.Author.Tests.{eq-eqb}
 use Rattle.section.specs.Header.{layout_of}
 use Rattle.section.specs.SectionS.{section_s, at_entry, with_frame}
 use Rattle.section.specs.declared.row.Row.{Row}
-use Rattle.accept.specs.Given.{row_sum, number_of_rule, verdict_number}
+use Rattle.accept.specs.Given.{number_of_rule, verdict_number}
+use Rattle.accept.specs.declared.verdict.Rule.TheVariants.{RowSum}
 use Rattle.accept.specs.Computed.Checks.{verdict}
-use Rattle.accept.specs.declared.verdict.Verdict.TheVariants.{Accepted}
+use Rattle.accept.specs.Verdict.{Accepted}
 use Rattle.accept.proofs.CauseLaws.{check_given}
 use Rattle.accept.proofs.Exactly.{number_of_rule_lem}
 use Rattle.accept.proofs.FaultLaws.{accepted_or_refused}
@@ -206,8 +207,8 @@ module _ (calls : Calls) where
   unfolding number_of_rule ending_number
   writes_on_15_breaks_1 writes demand =
       let refuses = demand.trace wrong_sum stack_window (loaded 0) (crashed 0 0) 2 sevens in
-      let given = (unsound_exactly_when wrong_sum stack_window (loaded 0) (crashed 0 0) 2 sevens row_sum 0).0 sum_refused in
-      let is = (refuses.carries row_sum 0).1 given in
+      let given = (unsound_exactly_when wrong_sum stack_window (loaded 0) (crashed 0 0) 2 sevens RowSum 0).0 sum_refused in
+      let is = (refuses.carries RowSum 0).1 given in
       writes wrong_sum stack_window (loaded 0) (crashed 0 0) 2 sevens (ap ending_number is) (refuses.leaves.unsound 15 0 is).1
 
 -- ---- there are such calls

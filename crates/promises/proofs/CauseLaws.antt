@@ -7,7 +7,9 @@ use Prim.Native.Nat.{ℕ, zero, suc, ◌≤◌, ◌<◌}
 use native.Mathlib.Omega.{arith}
 use lib.IntN.{ℤ}
 use lib.ListN.{length, get_or}
-use Rattle.accept.specs.Given.{Rule, short, long, magic, version, flags, abi, fixed, sizes, entry_info, repeat_size, rows_inside, row_info, rows_rising, sorted, row_sum, number_of_rule}
+use Rattle.accept.specs.Given.{number_of_rule}
+use Rattle.accept.specs.declared.verdict.Rule.{Rule}
+use Rattle.accept.specs.declared.verdict.Rule.TheVariants.{Short, Long, Magic, Version, Flags, Abi, Fixed, Sizes, EntryInfo, RepeatSize, RowsInside, RowInfo, RowsRising, Sorted, RowSum}
 use Rattle.lookup.specs.Numbers as lookup
 use Rattle.lookup.specs.Numbers.{Unfound, no_function, dispute, no_row, number_of_unfound, LookupCause, number_of_lookup_cause}
 use Rattle.ask.specs.Cases.{OnAsk}
@@ -27,21 +29,21 @@ at_place (x ∷ l) (suc k) default lt = mem-cons_of_mem x (at_place l k default 
 
 pub every_rule_lem : (rule : Rule) → Mem rule every_rule
 unfolding every_rule
-every_rule_lem short = at_place every_rule 0 short (omega arith)
-every_rule_lem long = at_place every_rule 1 short (omega arith)
-every_rule_lem magic = at_place every_rule 2 short (omega arith)
-every_rule_lem version = at_place every_rule 3 short (omega arith)
-every_rule_lem flags = at_place every_rule 4 short (omega arith)
-every_rule_lem abi = at_place every_rule 5 short (omega arith)
-every_rule_lem fixed = at_place every_rule 6 short (omega arith)
-every_rule_lem sizes = at_place every_rule 7 short (omega arith)
-every_rule_lem entry_info = at_place every_rule 8 short (omega arith)
-every_rule_lem repeat_size = at_place every_rule 9 short (omega arith)
-every_rule_lem rows_inside = at_place every_rule 10 short (omega arith)
-every_rule_lem row_info = at_place every_rule 11 short (omega arith)
-every_rule_lem rows_rising = at_place every_rule 12 short (omega arith)
-every_rule_lem sorted = at_place every_rule 13 short (omega arith)
-every_rule_lem row_sum = at_place every_rule 14 short (omega arith)
+every_rule_lem Short = at_place every_rule 0 Short (omega arith)
+every_rule_lem Long = at_place every_rule 1 Short (omega arith)
+every_rule_lem Magic = at_place every_rule 2 Short (omega arith)
+every_rule_lem Version = at_place every_rule 3 Short (omega arith)
+every_rule_lem Flags = at_place every_rule 4 Short (omega arith)
+every_rule_lem Abi = at_place every_rule 5 Short (omega arith)
+every_rule_lem Fixed = at_place every_rule 6 Short (omega arith)
+every_rule_lem Sizes = at_place every_rule 7 Short (omega arith)
+every_rule_lem EntryInfo = at_place every_rule 8 Short (omega arith)
+every_rule_lem RepeatSize = at_place every_rule 9 Short (omega arith)
+every_rule_lem RowsInside = at_place every_rule 10 Short (omega arith)
+every_rule_lem RowInfo = at_place every_rule 11 Short (omega arith)
+every_rule_lem RowsRising = at_place every_rule 12 Short (omega arith)
+every_rule_lem Sorted = at_place every_rule 13 Short (omega arith)
+every_rule_lem RowSum = at_place every_rule 14 Short (omega arith)
 
 every_unfound_lem : (why : Unfound) → Mem why every_unfound
 unfolding every_unfound
@@ -57,21 +59,21 @@ every_lookup_cause_lem (lookup.unfound why) = mem-append_right (map lookup.unsou
 -- a rule that the header can break is one of 1 to 8
 every_header_rule_lem : (rule : Rule) → number_of_rule rule ≤ 8 → Mem rule every_header_rule
 unfolding every_header_rule number_of_rule
-every_header_rule_lem short le = at_place every_header_rule 0 short (omega arith)
-every_header_rule_lem long le = at_place every_header_rule 1 short (omega arith)
-every_header_rule_lem magic le = at_place every_header_rule 2 short (omega arith)
-every_header_rule_lem version le = at_place every_header_rule 3 short (omega arith)
-every_header_rule_lem flags le = at_place every_header_rule 4 short (omega arith)
-every_header_rule_lem abi le = at_place every_header_rule 5 short (omega arith)
-every_header_rule_lem fixed le = at_place every_header_rule 6 short (omega arith)
-every_header_rule_lem sizes le = at_place every_header_rule 7 short (omega arith)
-every_header_rule_lem entry_info le = absurd (omega arith)
-every_header_rule_lem repeat_size le = absurd (omega arith)
-every_header_rule_lem rows_inside le = absurd (omega arith)
-every_header_rule_lem row_info le = absurd (omega arith)
-every_header_rule_lem rows_rising le = absurd (omega arith)
-every_header_rule_lem sorted le = absurd (omega arith)
-every_header_rule_lem row_sum le = absurd (omega arith)
+every_header_rule_lem Short le = at_place every_header_rule 0 Short (omega arith)
+every_header_rule_lem Long le = at_place every_header_rule 1 Short (omega arith)
+every_header_rule_lem Magic le = at_place every_header_rule 2 Short (omega arith)
+every_header_rule_lem Version le = at_place every_header_rule 3 Short (omega arith)
+every_header_rule_lem Flags le = at_place every_header_rule 4 Short (omega arith)
+every_header_rule_lem Abi le = at_place every_header_rule 5 Short (omega arith)
+every_header_rule_lem Fixed le = at_place every_header_rule 6 Short (omega arith)
+every_header_rule_lem Sizes le = at_place every_header_rule 7 Short (omega arith)
+every_header_rule_lem EntryInfo le = absurd (omega arith)
+every_header_rule_lem RepeatSize le = absurd (omega arith)
+every_header_rule_lem RowsInside le = absurd (omega arith)
+every_header_rule_lem RowInfo le = absurd (omega arith)
+every_header_rule_lem RowsRising le = absurd (omega arith)
+every_header_rule_lem Sorted le = absurd (omega arith)
+every_header_rule_lem RowSum le = absurd (omega arith)
 
 -- so every cause that can hold of an asked address is listed
 unanswereds : List AskCause

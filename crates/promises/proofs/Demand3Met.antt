@@ -10,7 +10,7 @@ use Rattle.numbers.specs.Start.{distance}
 use Rattle.numbers.specs.Computed.Address.{window_fits}
 use Rattle.section.specs.Header.{layout_of}
 use Rattle.accept.specs.Computed.Checks.{verdict}
-use Rattle.accept.specs.declared.verdict.Verdict.TheVariants.{Accepted}
+use Rattle.accept.specs.Verdict.{Accepted}
 use Rattle.lookup.specs.Finding.{finding_of}
 use Rattle.lookup.specs.Computed.Answers.{answer_after, lookup_of, look_in}
 use Rattle.lookup.proofs.CoveringLaws.{by_value}

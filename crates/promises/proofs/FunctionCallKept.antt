@@ -19,8 +19,7 @@ use Rattle.section.specs.declared.entry.Entry.{Entry}
 use Rattle.accept.specs.Given.{number_of_rule, HeaderBreaks}
 use Rattle.accept.specs.Rules.{function_count, row_count, Obeys}
 use Rattle.accept.specs.Computed.Checks.{header_fault}
-use Rattle.accept.specs.declared.verdict.Fault.{Fault}
-use Rattle.accept.specs.declared.verdict.Fault.TheVariants.{Sound, Breaks}
+use Rattle.accept.specs.Fault.{Fault, Sound, Breaks}
 use Rattle.accept.proofs.CauseLaws.{rules_distinct, due_exactly_when}
 use Rattle.accept.proofs.Exactly.{header_exactly_when}
 use Rattle.accept.proofs.HeaderLaws.{number_of_fault, breaks_not_obeys, fault_due, fault_makes, fault_none}

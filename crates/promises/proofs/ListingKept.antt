@@ -17,8 +17,7 @@ use Rattle.section.specs.Meaning.{function_in, functions_of}
 use Rattle.accept.specs.Given.{number_of_rule}
 use Rattle.accept.specs.Rules.{function_count, Obeys}
 use Rattle.accept.specs.Computed.Checks.{verdict}
-use Rattle.accept.specs.declared.verdict.Verdict.{Verdict}
-use Rattle.accept.specs.declared.verdict.Verdict.TheVariants.{Accepted, Refused}
+use Rattle.accept.specs.Verdict.{Verdict, Accepted, Refused}
 use Rattle.accept.proofs.Exactly.{accepted_exactly_when, given_exactly_when}
 use Rattle.listing.specs.Listing.{refused, lines, lines_of, listing_by, listing_of, next_row, next_line, after}
 use Rattle.listing.specs.Computed.Lines.{line_turn, cursor_of, cursor_at, lines_left}

@@ -10,7 +10,7 @@ use native.Mathlib.Omega.{arith}
 use Rattle.section.specs.Header.{layout_of}
 use Rattle.accept.specs.Given.{number_of_rule}
 use Rattle.accept.specs.Computed.Checks.{verdict}
-use Rattle.accept.specs.declared.verdict.Verdict.TheVariants.{Accepted}
+use Rattle.accept.specs.Verdict.{Accepted}
 use Rattle.accept.proofs.Exactly.{accepted_exactly_when, given_exactly_when, obeys_or_refusal}
 use Rattle.lookup.specs.Computed.Answers.{lookup_of}
 use Rattle.lookup.proofs.CoveringLaws.{by_value}

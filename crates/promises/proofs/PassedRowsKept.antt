@@ -8,7 +8,7 @@ use Rattle.numbers.specs.Start.{distance}
 use Rattle.section.specs.Meaning.{shape_of}
 use Rattle.section.proofs.PartAgreement.{shape_agrees}
 use Rattle.accept.specs.Computed.Checks.{verdict}
-use Rattle.accept.specs.declared.verdict.Verdict.TheVariants.{Accepted}
+use Rattle.accept.specs.Verdict.{Accepted}
 use Rattle.accept.proofs.TriedAgreement.{verdict_agrees}
 use Rattle.lookup.specs.Finding.{finding_of}
 use Rattle.lookup.specs.Scanned.{LookAlike}

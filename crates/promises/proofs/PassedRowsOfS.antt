@@ -17,7 +17,7 @@ use Rattle.section.specs.Meaning.{area_of, shape_of, entry_in}
 use Rattle.section.specs.SectionS.{section_s}
 use Rattle.accept.specs.Rules.{function_count}
 use Rattle.accept.specs.Computed.Checks.{verdict}
-use Rattle.accept.specs.declared.verdict.Verdict.TheVariants.{Accepted}
+use Rattle.accept.specs.Verdict.{Accepted}
 use Rattle.lookup.specs.Cases.{Covers, OffsetIs}
 use Rattle.lookup.specs.Scanned.{start_in, LookAlike, LookedAt, of_passed, of_found, of_stop}
 use Rattle.lookup.specs.Computed.Answers.{lookup_of}

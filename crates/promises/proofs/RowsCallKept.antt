@@ -19,8 +19,7 @@ use Rattle.section.specs.Shape.{shape}
 use Rattle.section.specs.declared.row.Row.{Row}
 use Rattle.accept.specs.Rules.{function_count, Obeys}
 use Rattle.accept.specs.Computed.Checks.{header_fault}
-use Rattle.accept.specs.declared.verdict.Fault.{Fault}
-use Rattle.accept.specs.declared.verdict.Fault.TheVariants.{Sound, Breaks}
+use Rattle.accept.specs.Fault.{Fault, Sound, Breaks}
 use Rattle.accept.proofs.Exactly.{header_exactly_when}
 use Rattle.accept.proofs.HeaderLaws.{breaks_not_obeys}
 use Rattle.listing.specs.Functions.{rows_place, facts_of, described_in, described_by, described_of}

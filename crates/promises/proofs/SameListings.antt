@@ -18,7 +18,7 @@ use Rattle.section.specs.SectionS.{section_s}
 use Rattle.section.specs.declared.row.Row.{Row}
 use Rattle.accept.specs.Rules.{row_info_at}
 use Rattle.accept.specs.Computed.Checks.{verdict}
-use Rattle.accept.specs.declared.verdict.Verdict.TheVariants.{Accepted}
+use Rattle.accept.specs.Verdict.{Accepted}
 use Rattle.lookup.specs.Inner.Opened.{lookup_opened}
 use Rattle.promises.specs.Demand3.{Alike}
 use Rattle.promises.specs.Listings.{plain_function, repeated_function, shifted_function, sorted_listing, other_listing, changed_listing, shuffled_s, zero_rowless, zero_with_row, sized_entry, zero_listing, zeros_listed, zeros_exchanged, uncounted}

@@ -18,7 +18,7 @@ use Rattle.section.specs.Header.{layout_of}
 use Rattle.section.specs.Meaning.{Function, listed, function_in, functions_of}
 use Rattle.accept.specs.Rules.{function_count}
 use Rattle.accept.specs.Computed.Checks.{verdict}
-use Rattle.accept.specs.declared.verdict.Verdict.TheVariants.{Accepted}
+use Rattle.accept.specs.Verdict.{Accepted}
 use Rattle.accept.proofs.AcceptedLaws.{accepted_laws, pass_on, no_less}
 use Rattle.lookup.specs.Halving.{halve, empty_function, starts_at_most, landing}
 use Rattle.lookup.specs.declared.search.Landing.{Landing}

@@ -1,7 +1,7 @@
 -- Any four calls, whatever they answer: functions from what is lent to a reply and, for a trace, to the words left in the buffer as
 -- well. Each demand is a predicate of such calls, so that it can be met and can be broken.
 use Rattle.std.specs.Prelude.{List, ℕ}
-use Rattle.accept.specs.declared.verdict.Verdict.{Verdict}
+use Rattle.accept.specs.Verdict.{Verdict}
 use Rattle.lookup.specs.declared.answer.Answer.{Answer}
 use Rattle.caller.specs.declared.registers.Registers.{Registers}
 use Rattle.caller.specs.declared.registers.Step.{Step}

@@ -4,8 +4,9 @@
 use Rattle.std.specs.Prelude.{◌≡◌, List, [], ◌∷◌, ◌⊎◌, ◌↔◌, ℕ, ◌*◌, length, drop}
 use Rattle.numbers.specs.Start.{distance}
 use Rattle.section.specs.declared.row.Row.{Row}
-use Rattle.accept.specs.Given.{Rule, number_of_rule, verdict_number, verdict_indexes, Given, BrokenFirst}
-use Rattle.accept.specs.declared.verdict.Verdict.TheVariants as verdict
+use Rattle.accept.specs.Given.{number_of_rule, verdict_number, verdict_indexes, Given, BrokenFirst}
+use Rattle.accept.specs.declared.verdict.Rule.{Rule}
+use Rattle.accept.specs.Verdict as verdict
 use Rattle.lookup.specs.Cases.{OnLookup}
 use Rattle.lookup.specs.Numbers.{LookupCause, number_of_lookup_cause, outcome_number}
 use Rattle.lookup.specs.declared.answer.Outcome.TheVariants as outcome

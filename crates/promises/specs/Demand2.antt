@@ -5,7 +5,7 @@ use Rattle.std.specs.Prelude.{◌≡◌, List, [], ◌∷◌, ◌↔◌, ℕ, su
 use Rattle.numbers.specs.Start.{distance}
 use Rattle.section.specs.declared.row.Row.{Row}
 use Rattle.accept.specs.Rules.{Obeys}
-use Rattle.accept.specs.declared.verdict.Verdict.TheVariants.{Accepted}
+use Rattle.accept.specs.Verdict.{Accepted}
 use Rattle.lookup.specs.Cases as lookup
 use Rattle.lookup.specs.Numbers.{outcome_indexes, outcome_row}
 use Rattle.lookup.specs.declared.answer.Outcome.{Outcome}

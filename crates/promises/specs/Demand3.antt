@@ -6,7 +6,7 @@ use Rattle.numbers.specs.Start.{distance}
 use Rattle.section.specs.Header.{layout_of}
 use Rattle.section.specs.Meaning.{functions_of}
 use Rattle.accept.specs.Rules.{function_count}
-use Rattle.accept.specs.declared.verdict.Verdict.TheVariants.{Accepted}
+use Rattle.accept.specs.Verdict.{Accepted}
 use Rattle.lookup.specs.Finding.{finding_of}
 use Rattle.lookup.specs.Halving.{landing}
 use Rattle.caller.specs.declared.registers.Registers.{Registers}

@@ -6,7 +6,8 @@ use borrow.Fn.Kinds.{Dens}
 use contract.Lifetimes.{Lfts}
 use Rattle.section.specs.Entry.{repeats}
 use Rattle.section.specs.Meaning.{entry_in, function_start}
-use Rattle.accept.specs.Given.{Rule, number_of_rule, HeaderBreaks}
+use Rattle.accept.specs.Given.{number_of_rule, HeaderBreaks}
+use Rattle.accept.specs.declared.verdict.Rule.{Rule}
 use Rattle.accept.specs.Rules.{function_count, row_count, HeaderObeys}
 use Rattle.listing.specs.Functions.{described_of}
 use Rattle.suntimpani.specs.Flat.{flat_function}

@@ -8,7 +8,8 @@ use contract.Lifetimes.{Lfts}
 use Rattle.std.specs.Borrow.{Bor}
 use denote.Triple.Clauses.{at_exit}
 use Rattle.section.specs.Meaning.{listed, function_in, functions_of}
-use Rattle.accept.specs.Given.{Rule, number_of_rule, Given}
+use Rattle.accept.specs.Given.{number_of_rule, Given}
+use Rattle.accept.specs.declared.verdict.Rule.{Rule}
 use Rattle.accept.specs.Rules.{function_count, Obeys}
 use Rattle.listing.specs.Listing.{Listing, refused, lines, function_line_of, lines_of_function, function_lines, rows_ahead, rows_below, next_row, next_line, after}
 use Rattle.listing.specs.declared.lines.Cursor.{Cursor}

@@ -5,7 +5,7 @@ use Rattle.std.specs.Prelude.{◌≡◌, List, ℕ, set, Some}
 use Rattle.numbers.specs.Start.{distance}
 use Rattle.section.specs.SectionS.{section_s}
 use Rattle.accept.specs.Tried.{CheckAlike}
-use Rattle.accept.specs.declared.verdict.Verdict.TheVariants.{Accepted}
+use Rattle.accept.specs.Verdict.{Accepted}
 use Rattle.lookup.specs.Scanned.{LookAlike}
 use Rattle.caller.specs.Frame.{asked_of}
 use Rattle.caller.specs.declared.registers.Registers.{Registers}

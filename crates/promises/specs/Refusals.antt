@@ -1,7 +1,8 @@
 -- Every number, call by call: the causes of each call, in the order of their numbers. When each is given stands in the layers: `Given` of the
 -- crate accept for a check, `OnLookup`, `OnStep` and `OnTrace` for the others, each nested in the one before, and `OnAsk`.
 use Rattle.std.specs.Prelude.{List, [], ◌∷◌, ◌++◌, map}
-use Rattle.accept.specs.Given.{Rule, short, long, magic, version, flags, abi, fixed, sizes, entry_info, repeat_size, rows_inside, row_info, rows_rising, sorted, row_sum}
+use Rattle.accept.specs.declared.verdict.Rule.{Rule}
+use Rattle.accept.specs.declared.verdict.Rule.TheVariants.{Short, Long, Magic, Version, Flags, Abi, Fixed, Sizes, EntryInfo, RepeatSize, RowsInside, RowInfo, RowsRising, Sorted, RowSum}
 use Rattle.lookup.specs.Numbers as lookup
 use Rattle.lookup.specs.Numbers.{Unfound, no_function, dispute, no_row, LookupCause}
 use Rattle.ask.specs.Numbers as ask
@@ -13,7 +14,7 @@ use Rattle.trace.specs.Numbers.{TraceCause, window, limit_above, too_few_words, 
 -- a check's: 1 to 15
 unfoldable pub every_rule : List Rule
 every_rule =
-    short ∷ long ∷ magic ∷ version ∷ flags ∷ abi ∷ fixed ∷ sizes ∷ entry_info ∷ repeat_size ∷ rows_inside ∷ row_info ∷ rows_rising ∷ sorted ∷ row_sum
+    Short ∷ Long ∷ Magic ∷ Version ∷ Flags ∷ Abi ∷ Fixed ∷ Sizes ∷ EntryInfo ∷ RepeatSize ∷ RowsInside ∷ RowInfo ∷ RowsRising ∷ Sorted ∷ RowSum
     ∷ []
 
 -- 21 to 23
@@ -26,7 +27,7 @@ every_lookup_cause = map lookup.unsound every_rule ++ map lookup.unfound every_u
 
 -- the header's: 1 to 8
 unfoldable pub every_header_rule : List Rule
-every_header_rule = short ∷ long ∷ magic ∷ version ∷ flags ∷ abi ∷ fixed ∷ sizes ∷ []
+every_header_rule = Short ∷ Long ∷ Magic ∷ Version ∷ Flags ∷ Abi ∷ Fixed ∷ Sizes ∷ []
 
 -- an asked address's: 1 to 8, 21, 23, 44, 45
 unfoldable pub every_ask_cause : List AskCause

@@ -3,8 +3,7 @@
 -- calls.
 use Rattle.std.specs.Prelude.{◌≡◌, List, [], ◌∷◌, ◌++◌, ℕ, zero, suc, ◌+◌, ◌^◌, ◌-◌, take, replicate, set}
 use Rattle.section.specs.SectionS.{section_s, overlapping_s, unsorted_s, at_entry, with_frame}
-use Rattle.accept.specs.declared.verdict.Verdict.{Verdict}
-use Rattle.accept.specs.declared.verdict.Verdict.TheVariants.{Accepted, Refused}
+use Rattle.accept.specs.Verdict.{Verdict, Accepted, Refused}
 use Rattle.lookup.specs.declared.answer.Answer.{Answer}
 use Rattle.lookup.specs.declared.answer.Outcome.TheVariants.{Found, NoFunction, Dispute}
 use Rattle.caller.specs.declared.registers.Registers.{Registers}

@@ -3,7 +3,7 @@
 use Rattle.std.specs.Prelude.{◌≡◌, Bool, true, false, List, [], ◌∷◌, ℕ, suc, eqb, length, get_or, take, replicate}
 use Rattle.section.specs.declared.row.Row.{Row}
 use Rattle.accept.specs.Computed.Checks.{verdict}
-use Rattle.accept.specs.declared.verdict.Verdict.TheVariants as verdict
+use Rattle.accept.specs.Verdict as verdict
 use Rattle.lookup.specs.Numbers.{outcome_number}
 use Rattle.lookup.specs.Computed.Answers.{lookup_of}
 use Rattle.lookup.specs.declared.answer.Outcome.TheVariants.{Found, NoFunction}

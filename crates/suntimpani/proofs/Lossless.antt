@@ -22,10 +22,9 @@ use Rattle.section.specs.declared.shape.Abi.{Abi}
 use Rattle.section.specs.declared.shape.Abi.TheVariants.{Aarch64Big, Aarch64Little, Amd64}
 use Rattle.accept.specs.Given.{verdict_number, verdict_indexes}
 use Rattle.accept.specs.Computed.Checks.{given_at, then_try, header_fault, entries_verdict, verdict}
-use Rattle.accept.specs.declared.verdict.Fault.{Fault}
-use Rattle.accept.specs.declared.verdict.Fault.TheVariants.{Sound, Breaks}
-use Rattle.accept.specs.declared.verdict.Verdict.{Verdict}
-use Rattle.accept.specs.declared.verdict.Verdict.TheVariants as verdict
+use Rattle.accept.specs.Fault.{Fault, Sound, Breaks}
+use Rattle.accept.specs.Verdict.{Verdict}
+use Rattle.accept.specs.Verdict as verdict
 use Rattle.accept.proofs.Exactly.{verdict_number_lem, number_of_rule_lem}
 use Rattle.listing.specs.Functions.{facts_of, described_in, described_by, described_of}
 use Rattle.listing.specs.declared.function.Described.{Described}

@@ -7,7 +7,7 @@ use Rattle.section.specs.declared.row.Place.{Place}
 use Rattle.section.specs.declared.row.Place.TheVariants.{Register, AtOffset}
 use Rattle.section.specs.declared.row.Row.{Row}
 use Rattle.accept.specs.Given.{verdict_number, verdict_indexes}
-use Rattle.accept.specs.declared.verdict.Verdict.{Verdict}
+use Rattle.accept.specs.Verdict.{Verdict}
 use Rattle.listing.specs.declared.function.Described.{Described}
 use Rattle.listing.specs.declared.function.Described.TheVariants.{Unsound, Unknown, Function}
 use Rattle.listing.specs.declared.function.Facts.{Facts}

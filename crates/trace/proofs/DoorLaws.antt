@@ -12,10 +12,9 @@ use lib.Dec.{eqb, ltb}
 use lib.ListN.{length}
 use Rattle.numbers.specs.Computed.Address.{window_fits}
 use Rattle.accept.specs.Computed.Checks.{first_bad, verdict}
-use Rattle.accept.specs.declared.verdict.Fault.{Fault}
-use Rattle.accept.specs.declared.verdict.Fault.TheVariants.{Sound, Breaks}
-use Rattle.accept.specs.declared.verdict.Verdict.{Verdict}
-use Rattle.accept.specs.declared.verdict.Verdict.TheVariants as verdict
+use Rattle.accept.specs.Fault.{Fault, Sound, Breaks}
+use Rattle.accept.specs.Verdict.{Verdict}
+use Rattle.accept.specs.Verdict as verdict
 use Rattle.accept.proofs.Decides.{not_below, at_most, unless}
 use Rattle.accept.proofs.FaultLaws.{Table, end, line, FirstBroken, table_sound, table_breaks}
 use Rattle.lookup.proofs.CoveringLaws.{by_value}

@@ -11,10 +11,11 @@ use lib.ListN.{length, get_or, drop}
 use borrow.Author.Tests.{ne_eqb}
 use Rattle.section.specs.Meaning.{shape_of}
 use Rattle.accept.specs.Given as accept
-use Rattle.accept.specs.Given.{Rule, number_of_rule, BrokenFirst}
+use Rattle.accept.specs.Given.{number_of_rule, BrokenFirst}
+use Rattle.accept.specs.declared.verdict.Rule.{Rule}
 use Rattle.accept.specs.Rules.{Obeys}
 use Rattle.accept.specs.Computed.Checks.{verdict}
-use Rattle.accept.specs.declared.verdict.Verdict.TheVariants as verdict
+use Rattle.accept.specs.Verdict as verdict
 use Rattle.accept.proofs.Exactly.{accepted_exactly_when, given_exactly_when, by_number}
 use Rattle.accept.proofs.FaultLaws.{accepted_or_refused}
 use Rattle.lookup.specs.Computed.Answers.{look_in}

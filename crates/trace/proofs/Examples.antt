@@ -17,7 +17,7 @@ use Rattle.section.specs.declared.row.Row.{Row}
 use Rattle.section.specs.SectionS.{section_s}
 use Rattle.section.specs.Shape.{aarch64_shape}
 use Rattle.accept.specs.Computed.Checks.{first_bad, verdict}
-use Rattle.accept.specs.declared.verdict.Fault.{Fault}
+use Rattle.accept.specs.Fault.{Fault}
 use Rattle.caller.specs.Computed.Caller.{from_row}
 use Rattle.caller.specs.declared.registers.Registers.{Registers}
 use Rattle.caller.specs.declared.registers.Step.{Step}

@@ -5,7 +5,7 @@ use mathlib.Core.List.{List, [], ◌∷◌}
 use Prim.Native.Nat.{ℕ, ◌-◌, ◌≤◌}
 use native.Mathlib.Omega.{arith}
 use lib.ListN.{get_or}
-use Rattle.accept.specs.Given.{Rule}
+use Rattle.accept.specs.declared.verdict.Rule.{Rule}
 use Rattle.accept.proofs.CauseLaws.{Distinct}
 use Rattle.accept.proofs.Exactly.{number_of_rule_lem, by_number}
 use Rattle.caller.specs.Numbers.{Refusal, number_of_step_cause}

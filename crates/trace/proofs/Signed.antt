@@ -15,10 +15,9 @@ use Rattle.section.specs.Meaning.{shape_of}
 use Rattle.section.specs.declared.row.Row.{Row}
 use Rattle.section.specs.declared.shape.Abi.TheVariants.{Amd64}
 use Rattle.accept.specs.Computed.Checks.{verdict}
-use Rattle.accept.specs.declared.verdict.Fault.{Fault}
-use Rattle.accept.specs.declared.verdict.Fault.TheVariants.{Breaks}
-use Rattle.accept.specs.declared.verdict.Verdict.{Verdict}
-use Rattle.accept.specs.declared.verdict.Verdict.TheVariants as verdict
+use Rattle.accept.specs.Fault.{Fault, Breaks}
+use Rattle.accept.specs.Verdict.{Verdict}
+use Rattle.accept.specs.Verdict as verdict
 use Rattle.accept.proofs.Exactly.{accepted_exactly_when}
 use Rattle.lookup.proofs.CoveringLaws.{is_false}
 use Rattle.caller.specs.Cases.{WindowFits, RowFound, CallerCase}

@@ -2,7 +2,8 @@
 -- nothing here says how the walk is made.
 use Rattle.std.specs.Prelude.{◌≡◌, List, [], ◌⊎◌, ℕ, suc, ◌*◌, ◌≤◌, ◌<◌, length, get_or}
 use Rattle.accept.specs.Given as accept
-use Rattle.accept.specs.Given.{Rule, number_of_rule, BrokenFirst}
+use Rattle.accept.specs.Given.{number_of_rule, BrokenFirst}
+use Rattle.accept.specs.declared.verdict.Rule.{Rule}
 use Rattle.accept.specs.Rules.{Obeys}
 use Rattle.caller.specs.Cases.{Rule41, OnRefusal, CallerCase}
 use Rattle.caller.specs.Numbers.{Refusal, number_of_refusal}

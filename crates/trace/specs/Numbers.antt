@@ -1,7 +1,8 @@
 -- The numbers of a trace (SPECIFICATION 6.2 to 6.8): why it is refused or ends, by name, and document 01's number of each cause; and
 -- of each ending the number and what it carries.
 use Rattle.std.specs.Prelude.{ℕ, List, [], ◌∷◌}
-use Rattle.accept.specs.Given.{Rule, number_of_rule}
+use Rattle.accept.specs.Given.{number_of_rule}
+use Rattle.accept.specs.declared.verdict.Rule.{Rule}
 use Rattle.caller.specs.Numbers as step
 use Rattle.caller.specs.Numbers.{Refusal, number_of_refusal, number_of_step_cause}
 use Rattle.trace.specs.declared.answer.Ending.{Ending}

@@ -14,10 +14,8 @@ use Rattle.section.specs.declared.entry.Entry.{Entry}
 use Rattle.section.specs.declared.header.Marks.{Marks}
 use Rattle.section.specs.declared.header.Sizes.{Sizes}
 use Rattle.section.specs.declared.shape.Shape.{Shape}
-use Rattle.accept.specs.declared.verdict.Fault.{Fault}
-use Rattle.accept.specs.declared.verdict.Fault.TheVariants.{Sound, Breaks}
-use Rattle.accept.specs.declared.verdict.Verdict.{Verdict}
-use Rattle.accept.specs.declared.verdict.Verdict.TheVariants.{Accepted, Refused}
+use Rattle.accept.specs.Fault.{Fault, Sound, Breaks}
+use Rattle.accept.specs.Verdict.{Verdict, Accepted, Refused}
 
 -- the number of the first test that is true
 unfoldable pub first_bad : List (Bool × ℕ) → Fault

@@ -6,7 +6,7 @@ use Rattle.section.specs.Meaning.{area_of, shape_of, entry_in, row_place_at, fun
 use Rattle.section.specs.Inner.Reading.{Readable}
 use Rattle.accept.specs.Rules.{function_count, row_count, HeaderObeys}
 use Rattle.accept.specs.Computed.Checks.{entry_fault}
-use Rattle.accept.specs.declared.verdict.Fault.TheVariants.{Sound}
+use Rattle.accept.specs.Fault.{Sound}
 
 pub record Reliable (s : List ℕ) : Type 0 where
   pub header : HeaderObeys s

@@ -6,7 +6,7 @@ use Rattle.section.specs.Meaning.{area_of, shape_of}
 use Rattle.section.specs.declared.header.Layout.{Layout}
 use Rattle.section.specs.declared.shape.Shape.{Shape}
 use Rattle.accept.specs.Computed.Checks.{header_fault}
-use Rattle.accept.specs.declared.verdict.Fault.TheVariants.{Sound}
+use Rattle.accept.specs.Fault.{Sound}
 
 pub record PartsOf (s area : List ℕ) (layout : Layout) (shape : Shape) (order : Order) : Type 0 where
   pub sound : header_fault s ≡ Sound

@@ -5,8 +5,7 @@ use Rattle.numbers.specs.Start.{distance}
 use Rattle.section.specs.Header.{layout_of}
 use Rattle.section.specs.Meaning.{area_of, shape_of, entry_in, function_in, functions_of}
 use Rattle.accept.specs.Computed.Checks.{header_fault, entry_fault}
-use Rattle.accept.specs.declared.verdict.Fault.{Fault}
-use Rattle.accept.specs.declared.verdict.Fault.TheVariants.{Sound, Breaks}
+use Rattle.accept.specs.Fault.{Fault, Sound, Breaks}
 use Rattle.lookup.specs.Halving.{landing}
 use Rattle.lookup.specs.Computed.Covering.{covers}
 use Rattle.lookup.specs.Computed.Rows.{row_for}

@@ -7,8 +7,7 @@ use Rattle.section.specs.Row.{row_of}
 use Rattle.section.specs.declared.entry.Entry.{Entry}
 use Rattle.section.specs.declared.shape.Shape.{Shape}
 use Rattle.accept.specs.Computed.Checks.{wrong_entry_info, rows_fault, entry_fault}
-use Rattle.accept.specs.declared.verdict.Fault.{Fault}
-use Rattle.accept.specs.declared.verdict.Fault.TheVariants.{Sound, Breaks}
+use Rattle.accept.specs.Fault.{Fault, Sound, Breaks}
 use Rattle.lookup.specs.Computed.Rows.{in_block, last_row}
 use Rattle.lookup.specs.declared.rows.Scan.{Scan}
 use Rattle.lookup.specs.declared.rows.Scan.TheVariants as scan

@@ -9,8 +9,8 @@ use Rattle.section.specs.declared.row.Place.TheVariants.{Register, AtOffset}
 use Rattle.section.specs.declared.row.Row.{Row}
 use Rattle.section.specs.declared.shape.Shape.{Shape}
 use Rattle.accept.specs.Computed.Checks.{verdict}
-use Rattle.accept.specs.declared.verdict.Verdict.{Verdict}
-use Rattle.accept.specs.declared.verdict.Verdict.TheVariants as verdict
+use Rattle.accept.specs.Verdict.{Verdict}
+use Rattle.accept.specs.Verdict as verdict
 use Rattle.lookup.specs.Finding.{Finding, finds, refuses}
 use Rattle.lookup.specs.Computed.Answers.{look_in}
 use Rattle.caller.specs.Frame.{has_mark, asked_of, cfa_of, caller_sp}

@@ -11,8 +11,8 @@ use Rattle.section.specs.declared.row.Place.TheVariants.{Register, AtOffset}
 use Rattle.section.specs.declared.row.Row.{Row}
 use Rattle.section.specs.declared.shape.Shape.{Shape}
 use Rattle.accept.specs.Computed.Checks.{verdict}
-use Rattle.accept.specs.declared.verdict.Verdict.{Verdict}
-use Rattle.accept.specs.declared.verdict.Verdict.TheVariants as verdict
+use Rattle.accept.specs.Verdict.{Verdict}
+use Rattle.accept.specs.Verdict as verdict
 use Rattle.caller.specs.Frame.{asked_of, base_value, cfa_of, caller_sp}
 use Rattle.caller.specs.Signature.{mask_of, clear}
 use Rattle.caller.specs.Computed.Caller.{is_maskless, is_low, spot_of, is_lost, value_of}

@@ -3,8 +3,7 @@ use Rattle.std.specs.Prelude.{ℕ, zero, suc, ◌+◌, ◌-◌, Bool, true, fals
 use Rattle.section.specs.Header.{layout_of}
 use Rattle.section.specs.declared.header.Layout.{Layout}
 use Rattle.accept.specs.Computed.Checks.{verdict}
-use Rattle.accept.specs.declared.verdict.Verdict.{Verdict}
-use Rattle.accept.specs.declared.verdict.Verdict.TheVariants.{Accepted, Refused}
+use Rattle.accept.specs.Verdict.{Verdict, Accepted, Refused}
 use Rattle.listing.specs.Functions.{facts_of}
 use Rattle.listing.specs.Computed.Turns.{ended, nothing_left, row_turn, rows_left}
 use Rattle.listing.specs.declared.function.Facts.{Facts}

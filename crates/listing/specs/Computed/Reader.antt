@@ -1,8 +1,7 @@
 -- Where a row reader begins.
 use Rattle.std.specs.Prelude.{ℕ, List}
 use Rattle.accept.specs.Computed.Checks.{verdict}
-use Rattle.accept.specs.declared.verdict.Verdict.{Verdict}
-use Rattle.accept.specs.declared.verdict.Verdict.TheVariants.{Accepted, Refused}
+use Rattle.accept.specs.Verdict.{Verdict, Accepted, Refused}
 use Rattle.listing.specs.Functions.{described_of}
 use Rattle.listing.specs.Computed.Turns.{nothing_left}
 use Rattle.listing.specs.declared.function.Described.{Described}

@@ -4,8 +4,7 @@ use Rattle.numbers.specs.Start.{distance}
 use Rattle.section.specs.Header.{layout_of}
 use Rattle.section.specs.Meaning.{Function, functions_of}
 use Rattle.accept.specs.Computed.Checks.{verdict}
-use Rattle.accept.specs.declared.verdict.Verdict.{Verdict}
-use Rattle.accept.specs.declared.verdict.Verdict.TheVariants.{Accepted, Refused}
+use Rattle.accept.specs.Verdict.{Verdict, Accepted, Refused}
 use Rattle.lookup.specs.Finding.{Finding, finding_of}
 use Rattle.lookup.specs.Halving.{empty_function, compared}
 use Rattle.lookup.specs.Computed.Covering.{covering, cover_of}

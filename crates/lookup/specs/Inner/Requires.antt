@@ -5,8 +5,8 @@ use Rattle.section.specs.Header.{layout_of, order_of}
 use Rattle.section.specs.Meaning.{function_in}
 use Rattle.section.specs.declared.header.Layout.{Layout}
 use Rattle.accept.specs.Computed.Checks.{header_fault, verdict}
-use Rattle.accept.specs.declared.verdict.Fault.TheVariants.{Sound}
-use Rattle.accept.specs.declared.verdict.Verdict.TheVariants.{Accepted}
+use Rattle.accept.specs.Fault.{Sound}
+use Rattle.accept.specs.Verdict.{Accepted}
 use Rattle.lookup.specs.Computed.Covering.{covers}
 
 -- a section with a sound header, and its own layout

@@ -4,10 +4,9 @@ use Rattle.std.specs.Prelude.{ℕ, zero, suc, ◌*◌, Bool, true, false, not, L
 use Rattle.numbers.specs.Computed.Address.{window_fits}
 use Rattle.section.specs.Meaning.{shape_of}
 use Rattle.accept.specs.Computed.Checks.{first_bad, verdict}
-use Rattle.accept.specs.declared.verdict.Fault.{Fault}
-use Rattle.accept.specs.declared.verdict.Fault.TheVariants.{Sound, Breaks}
-use Rattle.accept.specs.declared.verdict.Verdict.{Verdict}
-use Rattle.accept.specs.declared.verdict.Verdict.TheVariants as verdict
+use Rattle.accept.specs.Fault.{Fault, Sound, Breaks}
+use Rattle.accept.specs.Verdict.{Verdict}
+use Rattle.accept.specs.Verdict as verdict
 use Rattle.lookup.specs.Computed.Answers.{look_in}
 use Rattle.caller.specs.Computed.Caller.{step_of}
 use Rattle.caller.specs.declared.registers.Registers.{Registers}

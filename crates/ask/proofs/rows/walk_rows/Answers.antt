@@ -5,7 +5,7 @@ use mathlib.Core.Path.{◌≡◌, refl, sym, ◌∙◌, ap}
 use lib.ListN.{take}
 use Rattle.section.specs.Row.{row_start}
 use Rattle.accept.specs.Computed.Checks.{first_bad, row_tests}
-use Rattle.accept.specs.declared.verdict.Fault.TheVariants.{Sound}
+use Rattle.accept.specs.Fault.{Sound}
 use Rattle.accept.proofs.TableLaws.{row_refused}
 use Rattle.accept.proofs.WalkLaws.{row_low, row_fine, row_inside, walk_begins, walk_goes_on, walk_stops, walk_ends}
 use Rattle.ask.proofs.WalkLaws.{stop_begins, stop_goes_on, stop_ends, walk_faulty, walk_whole}
