@@ -15,7 +15,6 @@ use Rattle.numbers.proofs.TheLinks.numbers-field-bytes_at as link-field-bytes_at
 use Rattle.numbers.proofs.TheLinks.numbers-field-u64_at as link-field-u64_at
 use Rattle.numbers.proofs.TheLinks.numbers-address-word_at as link-address-word_at
 use Rattle.numbers.proofs.TheLinks.numbers-field-OrderPartialEq-eq as link-field-OrderPartialEq-eq
-use Rattle.numbers.proofs.TheLinks.numbers-field-in2 as link-field-in2
 use Rattle.numbers.proofs.TheLinks.numbers-field-u16_at as link-field-u16_at
 use Rattle.numbers.proofs.TheLinks.numbers-field-u32_at as link-field-u32_at
 use Rattle.numbers.proofs.TheLinks.numbers-field-u8_at as link-field-u8_at
@@ -41,7 +40,6 @@ entries more =
     ("numbers::field::u64_at", link-field-u64_at.entry) ∷
     ("numbers::address::word_at", link-address-word_at.entry) ∷
     ("numbers::field::OrderPartialEq::eq", link-field-OrderPartialEq-eq.entry) ∷
-    ("numbers::field::in2", link-field-in2.entry) ∷
     ("numbers::field::u16_at", link-field-u16_at.entry) ∷
     ("numbers::field::u32_at", link-field-u32_at.entry) ∷
     ("numbers::field::u8_at", link-field-u8_at.entry) ∷
@@ -67,7 +65,6 @@ pub record Finds (look : Symbol → Entry) : Type 0 where
   pub field_u64_at : look "numbers::field::u64_at" ≡ link-field-u64_at.entry
   pub address_word_at : look "numbers::address::word_at" ≡ link-address-word_at.entry
   pub field_OrderPartialEq_eq : look "numbers::field::OrderPartialEq::eq" ≡ link-field-OrderPartialEq-eq.entry
-  pub field_in2 : look "numbers::field::in2" ≡ link-field-in2.entry
   pub field_u16_at : look "numbers::field::u16_at" ≡ link-field-u16_at.entry
   pub field_u32_at : look "numbers::field::u32_at" ≡ link-field-u32_at.entry
   pub field_u8_at : look "numbers::field::u8_at" ≡ link-field-u8_at.entry
@@ -106,9 +103,6 @@ module _ (look : Symbol → Entry) (here : Finds look) where
 
   pub field_OrderPartialEq_eq : HasT look false link-field-OrderPartialEq-eq.code
   field_OrderPartialEq_eq = link-field-OrderPartialEq-eq.has look false here.field_OrderPartialEq_eq
-
-  pub field_in2 : HasT look false link-field-in2.code
-  field_in2 = link-field-in2.has look false here.field_in2 field_digit_at
 
   pub field_u16_at : HasT look false link-field-u16_at.code
   field_u16_at = link-field-u16_at.has look false here.field_u16_at field_bytes_at
