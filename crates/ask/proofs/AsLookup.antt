@@ -6,6 +6,7 @@ use mathlib.Core.List.{List}
 use Prim.Native.Nat.{ℕ, zero, suc, ◌<◌}
 use lib.IntN.{ℤ}
 use lib.ListN.{get_or}
+use Rattle.std.specs.Prelude.{Option, Some, None}
 use Rattle.numbers.specs.Start.{distance}
 use Rattle.section.specs.Header.{layout_of}
 use Rattle.section.specs.Meaning.{function_in, functions_of}
@@ -22,8 +23,7 @@ use Rattle.lookup.specs.Computed.Rows.{row_for}
 use Rattle.lookup.specs.declared.answer.Answer.{Answer}
 use Rattle.lookup.specs.declared.answer.Outcome.{Outcome}
 use Rattle.lookup.specs.declared.answer.Outcome.TheVariants as outcome
-use Rattle.lookup.specs.declared.rows.Scan.{Scan}
-use Rattle.lookup.specs.declared.rows.Scan.TheVariants.{Missed, Hit}
+use Rattle.lookup.specs.declared.rows.Hit.{Hit}
 use Rattle.lookup.specs.declared.search.Cover.TheVariants.{Nobody, One}
 use Rattle.lookup.specs.Inner.Search.{landed_on, cover_by}
 use Rattle.lookup.proofs.CaseLaws.{functions_at}
@@ -78,10 +78,10 @@ module _ (s : List ℕ) (accepted : verdict s ≡ Accepted) (sorted : (layout_of
   unfolding ask_number ask_indexes ask_row ask_compared number_of_unanswered outcome_number outcome_indexes outcome_row
   nothing-found none asked = rw (asked, looked, none) (record { number = refl; indexes = refl; row = refl; compared = refl })
 
-  one_row : (i : ℕ) (scan : Scan) → SameAnswer (with_row i (compared_in s d) scan) (counted (look.with_row i scan))
+  one_row : (i : ℕ) (scan : Option Hit) → SameAnswer (with_row i (compared_in s d) scan) (counted (look.with_row i scan))
   unfolding with_row look.with_row ask_number ask_indexes ask_row ask_compared number_of_unanswered outcome_number outcome_indexes outcome_row
-  one_row i Missed = record { number = refl; indexes = refl; row = refl; compared = refl }
-  one_row i (Hit row number) = record { number = refl; indexes = refl; row = refl; compared = refl }
+  one_row i None = record { number = refl; indexes = refl; row = refl; compared = refl }
+  one_row i (Some hit) = record { number = refl; indexes = refl; row = refl; compared = refl }
 
   -- "On an accepted sorted section its row, refusal and count equal the full answer."
   pub ask_as_lookup : SameAnswer (ask_of s address pc) (lookup_of s address pc)

@@ -8,6 +8,7 @@ use mathlib.Core.Logic.{◌↔◌, ⊎_elim}
 use Prim.Native.Nat.{ℕ, zero, suc, ◌<◌}
 use native.Mathlib.Omega.{arith}
 use lib.IntN.{ℤ}
+use Rattle.std.specs.Prelude.{Option}
 use Rattle.numbers.specs.Start.{distance}
 use Rattle.section.specs.Header.{layout_of}
 use Rattle.section.specs.Meaning.{area_of, shape_of, entry_in, function_in, functions_of}
@@ -23,7 +24,7 @@ use Rattle.lookup.specs.Cases.{Covers, OffsetIs}
 use Rattle.lookup.specs.Halving.{landing}
 use Rattle.lookup.specs.Computed.Covering.{covers}
 use Rattle.lookup.specs.Computed.Rows.{offset_within, last_row, row_for}
-use Rattle.lookup.specs.declared.rows.Scan.{Scan}
+use Rattle.lookup.specs.declared.rows.Hit.{Hit}
 use Rattle.lookup.proofs.CaseLaws.{functions_count, none_row, last_row_lem, rows_decided}
 use Rattle.lookup.proofs.CoveringLaws.{by_value, unless_true, is_true, covers_shows}
 use Rattle.lookup.proofs.OffsetWithinLaws.{offset_there, offset_unique}
@@ -110,7 +111,7 @@ module _ (s : List ℕ) (address pc : ℕ) where
   unfolding in_function checked_row
   ask_rows i lands sound = ask_inside i lands ∙ (rw ((own_rules s i).1 sound))
 
-  by-scan : (i o : ℕ) {scan : Scan} → LandsIn s d i → OwnRulesHold s i → OffsetIs s d i o → last_row o 0 (function_in s i).rows ≡ scan
+  by-scan : (i o : ℕ) {scan : Option Hit} → LandsIn s d i → OwnRulesHold s i → OffsetIs s d i o → last_row o 0 (function_in s i).rows ≡ scan
       → ask_of s address pc ≡ with_row i (compared_in s d) scan
   unfolding row_for
   by-scan i o lands sound offset e = ask_rows i lands sound ∙ ap (with_row i (compared_in s d)) (rw (← offset_unique offset) e)

@@ -9,6 +9,7 @@ use lib.Dec.{eqb}
 use lib.IntN.{ℤ, ◌-ℤ◌}
 use lib.ListN.{length}
 use borrow.Author.Tests.{eqb-true, eqb-false}
+use Rattle.std.specs.Prelude.{Option, Some, None}
 use Rattle.section.specs.Entry.{type_of, repeats}
 use Rattle.section.specs.Header.{bit_of}
 use Rattle.numbers.specs.Inner.Held.{natural}
@@ -22,8 +23,7 @@ use Rattle.accept.proofs.Decides.{Decides, not_below, positive, none_of, where_s
 use Rattle.accept.proofs.FaultLaws.{end, line, table_sound, and_sound}
 use Rattle.accept.proofs.RowLaws.{entry_info_decides, entry_sound}
 use Rattle.lookup.specs.Computed.Rows.{in_block, offset_within, row_for}
-use Rattle.lookup.specs.declared.rows.Scan.{Scan}
-use Rattle.lookup.specs.declared.rows.Scan.TheVariants as scan
+use Rattle.lookup.specs.declared.rows.Hit as lookup
 use Rattle.lookup.specs.declared.rows.Stop.{Stop}
 use Rattle.lookup.proofs.CoveringLaws.{by_value}
 use Rattle.lookup.proofs.EntryRows.{entry_stop, stop_none, stop_last, stop_readable}
@@ -120,11 +120,11 @@ module _ (area : List ℕ) (shape : Shape) (entry : Entry) where
 
 -- ---- what is answered by it
 
-sought_answer : (i compared : ℕ) (fault : Fault) (found : Scan) → with_sought i compared (sought_by fault found) ≡ checked_row fault i compared found
+sought_answer : (i compared : ℕ) (fault : Fault) (found : Option lookup.Hit) → with_sought i compared (sought_by fault found) ≡ checked_row fault i compared found
 unfolding with_sought sought_by checked_row with_row
 sought_answer i compared (Breaks number) found = refl
-sought_answer i compared Sound scan.Missed = refl
-sought_answer i compared Sound (scan.Hit row number) = refl
+sought_answer i compared Sound None = refl
+sought_answer i compared Sound (Some hit) = refl
 
 -- where the PC is d, it is d minus the start past it
 pub past_answer : (s : List ℕ) (d : ℤ) (i compared : ℕ) → past_function s i (natural (d -ℤ function_start s i)) compared ≡ in_function s d i compared

@@ -9,7 +9,7 @@ use crate::answer::AskAnswer;
 use crate::rows::{Sought, seek_row};
 use accept::header_check::check_header;
 use accept::verdict::Fault;
-use lookup::search::{Landing, Past, land, past_in};
+use lookup::search::{Landing, land, past_in};
 use lookup::table::entry_in;
 use section::header::{Layout, layout_at, order_at};
 use section::shape::shape_of;
@@ -67,8 +67,8 @@ fn where_landed(
         return AskAnswer::NoFunction { compared: compared };
     }
     match past_in(section, layout, low - 1, address, pc) {
-        Past::Outside => AskAnswer::NoFunction { compared: compared },
-        Past::By(past) => in_function(section, layout, low - 1, past, compared),
+        None => AskAnswer::NoFunction { compared: compared },
+        Some(past) => in_function(section, layout, low - 1, past, compared),
     }
 }
 

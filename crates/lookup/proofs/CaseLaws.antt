@@ -11,6 +11,7 @@ use lib.Dec.{eqb}
 use lib.IntN.{ℤ}
 use lib.ListN.{length, get_or}
 use lib.Signed.{<ℤ-≤ℤ_trans, clash_ℤ}
+use Rattle.std.specs.Prelude.{Option, Some, None}
 use Rattle.section.specs.Header.{layout_of}
 use Rattle.section.specs.Meaning.{row_in, function_in, functions_of}
 use Rattle.section.specs.Row.{row_of}
@@ -27,8 +28,7 @@ use Rattle.lookup.specs.Computed.Answers.{with_row, with_cover, outcome}
 use Rattle.lookup.specs.Computed.Rows.{offset_within, last_row, row_for}
 use Rattle.lookup.specs.declared.answer.Outcome.{Outcome}
 use Rattle.lookup.specs.declared.answer.Outcome.TheVariants.{Found, Unsound, NoFunction, Dispute, NoRow}
-use Rattle.lookup.specs.declared.rows.Scan.{Scan}
-use Rattle.lookup.specs.declared.rows.Scan.TheVariants.{Missed, Hit}
+use Rattle.lookup.specs.declared.rows.Hit.{Hit}
 use Rattle.lookup.proofs.CoveringLaws.{unless_true, is_true, covers_shows, covers_at, NoneAt, OnlyAt, LowestAt, none_cover, one_covers, two_cover, Coverage, no_one, just_one, two_or_more, cover_cases}
 use Rattle.lookup.proofs.LastRowLaws.{last_none, last_is, row_cases}
 use Rattle.lookup.proofs.OffsetWithinLaws.{offset_is, offset_unique}
@@ -89,14 +89,14 @@ module _ (s : List ℕ) (d : ℤ) where
 -- ---- the row of one function
 
 module _ (s : List ℕ) (i o : ℕ) where
-  pub none_row : NoneAtMost s i o → last_row o 0 (function_in s i).rows ≡ Missed
+  pub none_row : NoneAtMost s i o → last_row o 0 (function_in s i).rows ≡ None
   unfolding function_in row_in row_of row_count row_start_at
   none_row none =
       last_none o (row_of_function s i) (row_count s i) 0 λ j le lt.
       let above : ¬ (row_start_at s i j ≤ o) = λ at. none j (omega arith, at) in
       omega arith
 
-  pub last_row_lem : (k : ℕ) → LastAtMost s i o k → last_row o 0 (function_in s i).rows ≡ Hit (row_of_function s i k) k
+  pub last_row_lem : (k : ℕ) → LastAtMost s i o k → last_row o 0 (function_in s i).rows ≡ Some (record { row = row_of_function s i k; number = k })
   unfolding function_in row_in row_of row_count row_start_at
   last_row_lem k h =
       last_is o (row_of_function s i) (row_count s i) 0 k (omega arith) (omega arith) h.0.1 λ j less lt.
@@ -115,7 +115,7 @@ module _ (s : List ℕ) (i o : ℕ) where
 -- ---- the cases
 
 module _ (s : List ℕ) (d : ℤ) where
-  one-given : {i o : ℕ} {scan : Scan} → OnlyCovers s d i → OffsetIs s d i o → last_row o 0 (function_in s i).rows ≡ scan
+  one-given : {i o : ℕ} {scan : Option Hit} → OnlyCovers s d i → OffsetIs s d i o → last_row o 0 (function_in s i).rows ≡ scan
       → outcome d (functions_of s) ≡ with_row i scan
   unfolding outcome with_cover row_for
   one-given {i} {o} {scan} only offset e =

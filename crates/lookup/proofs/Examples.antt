@@ -9,6 +9,7 @@ use lib.Bits.{bit_and}
 use lib.IntN.{ℤ, pos, ◌-ℤ◌}
 use lib.ListN.{set}
 use lib.Signed.{le_z}
+use Rattle.std.specs.Prelude.{Option, Some, None}
 use Rattle.numbers.specs.Signed.{signed_of}
 use Rattle.numbers.specs.Inner.Held.{natural}
 use Rattle.section.specs.Header.{layout_of}
@@ -22,7 +23,7 @@ use Rattle.lookup.specs.Computed.Covering.{covering}
 use Rattle.lookup.specs.Computed.Rows.{in_block, last_row, row_for}
 use Rattle.lookup.specs.Inner.Opened.{lookup_opened}
 use Rattle.lookup.specs.declared.answer.Outcome.TheVariants.{Found, Unsound, NoFunction, Dispute, NoRow}
-use Rattle.lookup.specs.declared.rows.Scan.{Scan}
+use Rattle.lookup.specs.declared.rows.Hit.{Hit}
 use Rattle.lookup.specs.declared.search.Cover.{Cover}
 use Rattle.lookup.specs.declared.search.Cover.TheVariants.{Nobody, One}
 use Rattle.lookup.specs.declared.search.Landing.{Landing}
@@ -77,7 +78,7 @@ no_row = refl
 -- ---- wrong offsets: "Source 001 writes the repeated case as a mask; the remainder rule stands."
 
 -- the row by how the offset is taken from d minus the start, and ours
-row_by : (Block → ℕ → ℕ) → ℤ → Function → Scan
+row_by : (Block → ℕ → ℕ) → ℤ → Function → Option Hit
 row_by offset d f = last_row (offset f.block (natural (d -ℤ f.start))) 0 f.rows
 
 ours : (d : ℤ) (f : Function) → row_for d f ≡ row_by in_block d f
@@ -96,9 +97,13 @@ repeated_row : lookup_of repeating 0x400000 0x401006 ≡ (record { outcome = Fou
 unfolding lookup_opened section_s repeating at_entry
 repeated_row = refl
 
+number_in : Option Hit → ℕ
+number_in None = 0
+number_in (Some hit) = hit.number
+
 masked_differs : ¬ (row_by masked (pos 0x1006) (function_in repeating 0) ≡ row_for (pos 0x1006) (function_in repeating 0))
-unfolding lookup_opened section_s repeating row_by masked
-masked_differs e = let z : ◌≡◌ {A = ℕ} 1 0 = cc in omega arith
+unfolding lookup_opened section_s repeating row_by masked number_in
+masked_differs e = let z : ◌≡◌ {A = ℕ} 1 0 = ap number_in e in omega arith
 
 -- ---- "Letting the later of two covering entries win."
 

@@ -1,19 +1,19 @@
 -- Whether d, as it is held, is within a function: how far it is past the start tells, by one comparison with the size.
 -- Assumes nothing.
-use mathlib.Core.Path.{◌≡◌}
+use mathlib.Core.Path.{◌≡◌, sym, ◌∙◌}
 use mathlib.Core.Bool.{true, false, ◌&&◌}
 use Prim.Native.Nat.{ℕ, ◌+◌, ◌-◌, ◌^◌, ◌≤◌, ◌<◌}
 use native.Mathlib.Omega.{arith}
-use lib.Dec.{leb}
+use lib.Dec.{leb, ltb}
 use lib.IntN.{ℤ, pos, ◌+ℤ◌, ◌-ℤ◌}
 use lib.Signed.{le_z, lt_z}
-use borrow.Author.Tests.{leb-true, leb-false}
+use borrow.Author.Tests.{leb-true, leb-false, ltb-true, ltb-false}
+use Rattle.std.specs.Prelude.{Some, None}
 use Rattle.numbers.specs.Inner.Held.{natural, Held, Near}
 use Rattle.numbers.proofs.HeldLaws.{from_start, before_start, before_end, from_end, offset_in_lem}
 use Rattle.section.specs.Meaning.{Function}
 use Rattle.lookup.specs.Computed.Covering.{covers}
 use Rattle.lookup.specs.Inner.Search.{past_start, past_in}
-use Rattle.lookup.specs.declared.search.Past.TheVariants.{Outside, By}
 use Rattle.lookup.proofs.CoveringLaws.{by_value}
 
 pub past_from : (h n : ℕ) → leb h n ≡ true → past_start h n ≡ n - h
@@ -41,10 +41,16 @@ module _ {start d : ℤ} {h n : ℕ} (held : Held start h) (near : Near d n) (si
       rw (from_start held near from) (from_end size held near small (omega (arith, past_from h n e))))
       (λ e. rw (before_start held near (leb-false h n e)))
 
+  pub within : ltb (past_start h n) size ≡ (le_z start d && lt_z d (start +ℤ pos size))
+  within =
+      by_value (ltb (past_start h n) size)
+      (λ e. e ∙ sym (inside (ltb-true _ _ e)))
+      (λ e. e ∙ sym (outside (ltb-false _ _ e)))
+
 -- ---- how far it is past the start of a function that covers
 
 module _ (f : Function) {d : ℤ} {h n : ℕ} (held : Held f.start h) (near : Near d n) (small : f.size < 2 ^ 32) where
-  pub past_by : past_start h n < f.size → By (past_start h n) ≡ past_in d f
+  pub past_by : past_start h n < f.size → Some (past_start h n) ≡ past_in d f
   unfolding past_in covers natural
   past_by lt =
       let set : covers d f ≡ true = inside held near f.size small lt in
@@ -55,6 +61,6 @@ module _ (f : Function) {d : ℤ} {h n : ℕ} (held : Held f.start h) (near : Ne
       rw (set, past_in) (rw (past, past_from h n e)))
       (λ e. absurd (omega (arith, past_before h n e, held.room, leb-false h n e)))
 
-  pub past_none : f.size ≤ past_start h n → Outside ≡ past_in d f
+  pub past_none : f.size ≤ past_start h n → None ≡ past_in d f
   unfolding past_in covers
   past_none le = let unset : covers d f ≡ false = outside held near f.size small le in rw (unset, past_in)

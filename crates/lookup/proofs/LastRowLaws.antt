@@ -8,32 +8,33 @@ use Prim.Native.Nat.{ℕ, zero, suc, ◌+◌, ◌-◌, ◌≤◌, ◌<◌}
 use native.Mathlib.Nat.{eq-or-lt_of_le}
 use native.Mathlib.Omega.{arith}
 use borrow.Author.Tests.{le-leb, lt-leb}
+use Rattle.std.specs.Prelude.{Some, None}
 use Rattle.section.specs.Meaning.{listed}
 use Rattle.section.specs.declared.row.Row.{Row}
 use Rattle.accept.proofs.Decides.{not_below, by_test_lem}
 use Rattle.lookup.specs.Computed.Rows.{or_else, last_row}
 use Rattle.lookup.specs.Inner.Search.{leading}
-use Rattle.lookup.specs.declared.rows.Scan.TheVariants.{Missed, Hit}
+use Rattle.lookup.specs.declared.rows.Hit.{Hit}
 
 -- ---- one more row in front
 
 module _ (o k : ℕ) (row : Row) (rows : List Row) where
-  row-later : (later : Row) (j : ℕ) → last_row o (suc k) rows ≡ Hit later j → last_row o k (row ∷ rows) ≡ Hit later j
+  row-later : (later : Hit) → last_row o (suc k) rows ≡ Some later → last_row o k (row ∷ rows) ≡ Some later
   unfolding last_row or_else
-  row-later later j e = rw (e, or_else)
+  row-later later e = rw (e, or_else)
 
-  row_here : row.start ≤ o → last_row o (suc k) rows ≡ Missed → last_row o k (row ∷ rows) ≡ Hit row k
+  row_here : row.start ≤ o → last_row o (suc k) rows ≡ None → last_row o k (row ∷ rows) ≡ Some (record { row = row; number = k })
   unfolding last_row or_else
   row_here le e = rw e (rw (le-leb row.start o le))
 
-  row-above : o < row.start → last_row o (suc k) rows ≡ Missed → last_row o k (row ∷ rows) ≡ Missed
+  row-above : o < row.start → last_row o (suc k) rows ≡ None → last_row o k (row ∷ rows) ≡ None
   unfolding last_row or_else
   row-above lt e = rw e (rw (lt-leb row.start o lt))
 
 -- ---- the rows that a function makes, from one number on
 
 module _ (o : ℕ) (f : ℕ → Row) where
-  pub last_none : (count from : ℕ) → ((j : ℕ) → from ≤ j → j < from + count → o < (f j).start) → last_row o from (listed f count from) ≡ Missed
+  pub last_none : (count from : ℕ) → ((j : ℕ) → from ≤ j → j < from + count → o < (f j).start) → last_row o from (listed f count from) ≡ None
   unfolding listed last_row
   last_none zero from above = refl
   last_none (suc count) from above =
@@ -41,7 +42,7 @@ module _ (o : ℕ) (f : ℕ → Row) where
       (last_none count (suc from) (λ j le lt. above j (omega arith) (omega arith)))
 
   pub last_is : (count from k : ℕ) → from ≤ k → k < from + count → (f k).start ≤ o → ((j : ℕ) → k < j → j < from + count → o < (f j).start)
-      → last_row o from (listed f count from) ≡ Hit (f k) k
+      → last_row o from (listed f count from) ≡ Some (record { row = f k; number = k })
   unfolding listed
   last_is zero from k le lt here above = absurd (omega arith)
   last_is (suc count) from k le lt here above =
@@ -50,7 +51,7 @@ module _ (o : ℕ) (f : ℕ → Row) where
       (λ same.
       let none = last_none count (suc from) (λ j le lt. above j (omega arith) (omega arith)) in
       rw (← same) (row_here o from (f from) rows (rw same here) none))
-      (λ less. row-later o from (f from) rows (f k) k (last_is count (suc from) k less (omega arith) here (λ j lt inside. above j lt (omega arith))))
+      (λ less. row-later o from (f from) rows _ (last_is count (suc from) k less (omega arith) here (λ j lt inside. above j lt (omega arith))))
       (eq-or-lt_of_le le)
 
 -- ---- one of the two holds
@@ -153,11 +154,12 @@ module _ (start : ℕ → ℕ) (o : ℕ) where
 
     -- so it ends one past the last row at or below o, for rows with these starts
     module _ (f : ℕ → Row) (same : (k : ℕ) → k < count → start k ≡ (f k).start) where
-      pub leading_none : leading start o count 0 ≡ 0 → last_row o 0 (listed f count 0) ≡ Missed
+      pub leading_none : leading start o count 0 ≡ 0 → last_row o 0 (listed f count 0) ≡ None
       leading_none e = last_none o f count 0 (λ j le lt. omega (arith, same j (omega arith), leads.past j (omega arith) (omega arith)))
 
       pub leading_last : 0 < leading start o count 0
-          → last_row o 0 (listed f count 0) ≡ Hit (f (leading start o count 0 - 1)) (leading start o count 0 - 1)
+          → last_row o 0 (listed f count 0)
+          ≡ Some (record { row = f (leading start o count 0 - 1); number = leading start o count 0 - 1 })
       leading_last lt =
           let last = leading start o count 0 - 1 in
           let inside : last < count = omega (arith, leads.within) in

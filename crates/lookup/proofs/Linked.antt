@@ -12,18 +12,18 @@ use Rattle.section.proofs.Linked as section
 use Rattle.accept.proofs.Linked as accept
 use Rattle.lookup.proofs.TheLinks.lookup-look-left_over as link-look-left_over
 use Rattle.lookup.proofs.TheLinks.lookup-look-block_offset as link-look-block_offset
+use Rattle.lookup.proofs.TheLinks.lookup-table-entry_in as link-table-entry_in
+use Rattle.lookup.proofs.TheLinks.lookup-look-reached_in as link-look-reached_in
 use Rattle.lookup.proofs.TheLinks.lookup-rows-no_offsets as link-rows-no_offsets
 use Rattle.lookup.proofs.TheLinks.lookup-rows-starts_by as link-rows-starts_by
 use Rattle.lookup.proofs.TheLinks.lookup-rows-told_at as link-rows-told_at
 use Rattle.lookup.proofs.TheLinks.lookup-rows-pass_rows as link-rows-pass_rows
 use Rattle.lookup.proofs.TheLinks.lookup-rows-stop_at as link-rows-stop_at
 use Rattle.lookup.proofs.TheLinks.lookup-rows-scan_rows as link-rows-scan_rows
-use Rattle.lookup.proofs.TheLinks.lookup-table-entry_in as link-table-entry_in
 use Rattle.lookup.proofs.TheLinks.lookup-look-row_for as link-look-row_for
 use Rattle.lookup.proofs.TheLinks.lookup-look-with_row as link-look-with_row
 use Rattle.lookup.proofs.TheLinks.lookup-look-with_cover as link-look-with_cover
 use Rattle.lookup.proofs.TheLinks.lookup-search-bound_of as link-search-bound_of
-use Rattle.lookup.proofs.TheLinks.lookup-search-position_at as link-search-position_at
 use Rattle.lookup.proofs.TheLinks.lookup-search-rank_at as link-search-rank_at
 use Rattle.lookup.proofs.TheLinks.lookup-search-halve as link-search-halve
 use Rattle.lookup.proofs.TheLinks.lookup-search-past_start as link-search-past_start
@@ -45,18 +45,18 @@ abbrev pub entries : Entries → Entries
 entries more =
     ("lookup::look::left_over", link-look-left_over.entry) ∷
     ("lookup::look::block_offset", link-look-block_offset.entry) ∷
+    ("lookup::table::entry_in", link-table-entry_in.entry) ∷
+    ("lookup::look::reached_in", link-look-reached_in.entry) ∷
     ("lookup::rows::no_offsets", link-rows-no_offsets.entry) ∷
     ("lookup::rows::starts_by", link-rows-starts_by.entry) ∷
     ("lookup::rows::told_at", link-rows-told_at.entry) ∷
     ("lookup::rows::pass_rows", link-rows-pass_rows.entry) ∷
     ("lookup::rows::stop_at", link-rows-stop_at.entry) ∷
     ("lookup::rows::scan_rows", link-rows-scan_rows.entry) ∷
-    ("lookup::table::entry_in", link-table-entry_in.entry) ∷
     ("lookup::look::row_for", link-look-row_for.entry) ∷
     ("lookup::look::with_row", link-look-with_row.entry) ∷
     ("lookup::look::with_cover", link-look-with_cover.entry) ∷
     ("lookup::search::bound_of", link-search-bound_of.entry) ∷
-    ("lookup::search::position_at", link-search-position_at.entry) ∷
     ("lookup::search::rank_at", link-search-rank_at.entry) ∷
     ("lookup::search::halve", link-search-halve.entry) ∷
     ("lookup::search::past_start", link-search-past_start.entry) ∷
@@ -78,18 +78,18 @@ entries more =
 pub record Finds (look : Symbol → Entry) : Type 0 where
   pub look_left_over : look "lookup::look::left_over" ≡ link-look-left_over.entry
   pub look_block_offset : look "lookup::look::block_offset" ≡ link-look-block_offset.entry
+  pub table_entry_in : look "lookup::table::entry_in" ≡ link-table-entry_in.entry
+  pub look_reached_in : look "lookup::look::reached_in" ≡ link-look-reached_in.entry
   pub rows_no_offsets : look "lookup::rows::no_offsets" ≡ link-rows-no_offsets.entry
   pub rows_starts_by : look "lookup::rows::starts_by" ≡ link-rows-starts_by.entry
   pub rows_told_at : look "lookup::rows::told_at" ≡ link-rows-told_at.entry
   pub rows_pass_rows : look "lookup::rows::pass_rows" ≡ link-rows-pass_rows.entry
   pub rows_stop_at : look "lookup::rows::stop_at" ≡ link-rows-stop_at.entry
   pub rows_scan_rows : look "lookup::rows::scan_rows" ≡ link-rows-scan_rows.entry
-  pub table_entry_in : look "lookup::table::entry_in" ≡ link-table-entry_in.entry
   pub look_row_for : look "lookup::look::row_for" ≡ link-look-row_for.entry
   pub look_with_row : look "lookup::look::with_row" ≡ link-look-with_row.entry
   pub look_with_cover : look "lookup::look::with_cover" ≡ link-look-with_cover.entry
   pub search_bound_of : look "lookup::search::bound_of" ≡ link-search-bound_of.entry
-  pub search_position_at : look "lookup::search::position_at" ≡ link-search-position_at.entry
   pub search_rank_at : look "lookup::search::rank_at" ≡ link-search-rank_at.entry
   pub search_halve : look "lookup::search::halve" ≡ link-search-halve.entry
   pub search_past_start : look "lookup::search::past_start" ≡ link-search-past_start.entry
@@ -113,6 +113,12 @@ module _ (look : Symbol → Entry) (in_numbers : numbers.Finds look) (in_section
   pub look_block_offset : HasT look false link-look-block_offset.code
   look_block_offset = link-look-block_offset.has look false here.look_block_offset look_left_over (section.entry_does_repeat look in_numbers in_section)
 
+  pub table_entry_in : HasT look false link-table-entry_in.code
+  table_entry_in = link-table-entry_in.has look false here.table_entry_in (section.entry_entry_at look in_numbers in_section)
+
+  pub look_reached_in : HasT look false link-look-reached_in.code
+  look_reached_in = link-look-reached_in.has look false here.look_reached_in look_block_offset table_entry_in (numbers.held_near_of look in_numbers) (section.entry_start_of look in_numbers in_section) (section.header_order_at look in_numbers in_section)
+
   pub rows_no_offsets : HasT look false link-rows-no_offsets.code
   rows_no_offsets = link-rows-no_offsets.has look false here.rows_no_offsets (numbers.field_width_of look in_numbers)
 
@@ -131,11 +137,8 @@ module _ (look : Symbol → Entry) (in_numbers : numbers.Finds look) (in_section
   pub rows_scan_rows : HasT look false link-rows-scan_rows.code
   rows_scan_rows = link-rows-scan_rows.has look false here.rows_scan_rows rows_stop_at (section.entry_type_of look in_numbers in_section) (section.row_row_at look in_numbers in_section)
 
-  pub table_entry_in : HasT look false link-table-entry_in.code
-  table_entry_in = link-table-entry_in.has look false here.table_entry_in (section.entry_entry_at look in_numbers in_section)
-
   pub look_row_for : HasT look false link-look-row_for.code
-  look_row_for = link-look-row_for.has look false here.look_row_for look_block_offset rows_scan_rows table_entry_in (numbers.held_near_of look in_numbers) (section.entry_start_of look in_numbers in_section) (section.header_order_at look in_numbers in_section) (section.shape_shape_of look in_numbers in_section)
+  look_row_for = link-look-row_for.has look false here.look_row_for look_reached_in rows_scan_rows (section.shape_shape_of look in_numbers in_section)
 
   pub look_with_row : HasT look false link-look-with_row.code
   look_with_row = link-look-with_row.has look false here.look_with_row
@@ -146,11 +149,8 @@ module _ (look : Symbol → Entry) (in_numbers : numbers.Finds look) (in_section
   pub search_bound_of : HasT look false link-search-bound_of.code
   search_bound_of = link-search-bound_of.has look false here.search_bound_of
 
-  pub search_position_at : HasT look false link-search-position_at.code
-  search_position_at = link-search-position_at.has look false here.search_position_at
-
   pub search_rank_at : HasT look false link-search-rank_at.code
-  search_rank_at = link-search-rank_at.has look false here.search_rank_at search_position_at (numbers.field_u32_at look in_numbers) (numbers.held_rank_of look in_numbers)
+  search_rank_at = link-search-rank_at.has look false here.search_rank_at (numbers.field_u32_at look in_numbers) (numbers.held_rank_of look in_numbers) (section.entry_position_at look in_numbers in_section)
 
   pub search_halve : HasT look false link-search-halve.code
   search_halve = link-search-halve.has look false here.search_halve search_bound_of search_rank_at
@@ -186,7 +186,7 @@ module _ (look : Symbol → Entry) (in_numbers : numbers.Finds look) (in_section
   look_lookup = link-look-lookup.has look false here.look_lookup (accept.section_check_check look in_numbers in_section in_accept) look_look (section.header_layout_at look in_numbers in_section)
 
   pub search_land : HasT look false link-search-land.code
-  search_land = link-search-land.has look false here.search_land search_bound_of search_rank_at (numbers.held_near_of look in_numbers) (section.header_order_at look in_numbers in_section)
+  search_land = link-search-land.has look false here.search_land search_halve (numbers.held_near_of look in_numbers) (section.header_order_at look in_numbers in_section)
 
   pub search_past_within : HasT look false link-search-past_within.code
   search_past_within = link-search-past_within.has look false here.search_past_within search_past_start

@@ -1,6 +1,7 @@
 -- Entry i of a section with a sound header: where it stands, and how its start is held.
 -- Assumes nothing.
 use mathlib.Core.Path.{◌≡◌}
+use mathlib.Core.Bool.{Bool, true, false}
 use mathlib.Core.List.{List}
 use Prim.Native.Nat.{ℕ, ◌+◌, ◌*◌, ◌≤◌, ◌<◌}
 use native.Mathlib.Omega.{arith}
@@ -35,6 +36,12 @@ entry_room {s} {layout} header i lt =
 pub entry_place : {s : List ℕ} {layout : Layout} → HeaderOf s layout → (i : ℕ) → i < layout.functions
     → layout.table + 20 * i + 20 ≤ 16777216
 entry_place header i lt = omega (arith, entry_room header i lt, (header_obeys header).rule2)
+
+-- what a start counts from is no larger than its place
+pub position_below : (relative : Bool) (place : ℕ) → position_at relative place ≤ place
+unfolding position_at
+position_below true place = omega arith
+position_below false place = omega arith
 
 -- the start field of entry i, with what it counts from, is the start of function i
 pub field_held : {s : List ℕ} {layout : Layout} {order : Order} → TableOf s layout order → (i : ℕ) {field position h : ℕ}

@@ -6,10 +6,11 @@ ghost use Rattle.section.specs.Meaning.{block_of, function_in, functions_of};
 ghost use Rattle.lookup.specs.Computed.Answers.{with_row, with_cover, answer_of, lookup_of};
 ghost use Rattle.lookup.specs.Computed.Covering.{covering, cover_of};
 ghost use Rattle.lookup.specs.Computed.Rows.{in_block, row_for};
+ghost use Rattle.lookup.specs.Inner.Reached.{reached_in};
 ghost use Rattle.lookup.specs.Inner.Requires.{AcceptedOf, RowAsked};
 
 use crate::answer::{Answer, Outcome};
-use crate::rows::{Scan, scan_rows};
+use crate::rows::{Hit, scan_rows};
 use crate::search::{Cover, find};
 use crate::table::entry_in;
 use accept::section_check::check;
@@ -33,36 +34,57 @@ pub fn block_offset(entry: Entry, past: u64) -> u64
     ensures { result ≡ in_block (block_of entry) past }
 {
     if does_repeat(entry.info) {
-        return left_over(past, entry.repeat);
+        left_over(past, entry.repeat)
+    } else {
+        past
     }
-    past
 }
 
-// The row of function i, which covers the PC.
-fn row_for(section: &[u8], layout: Layout, i: u64, address: u64, pc: u64) -> Scan
+// The entry of a function that covers a PC, and the offset that its rows' starts are compared with.
+#[derive(Clone, Copy)]
+pub struct Reached {
+    pub entry: Entry,
+    pub offset: u64,
+}
+
+// Of function i, which covers the PC. It is inlined, since an explanation's call is not to slow down a lookup's.
+#[inline(always)]
+pub fn reached_in(section: &[u8], layout: Layout, i: u64, address: u64, pc: u64) -> Reached
     requires { RowAsked section.now layout i (distance address pc) }
-    ensures { result ≡ row_for (distance address pc) (function_in section.now i) }
+    ensures { result ≡ reached_in section.now (distance address pc) i }
 {
     let entry = entry_in(section, layout, order_at(section), i);
     let past = near_of(address, pc) - start_of(layout.relative, entry);
+    Reached {
+        entry,
+        offset: block_offset(entry, past),
+    }
+}
+
+// The row of function i, which covers the PC.
+fn row_for(section: &[u8], layout: Layout, i: u64, address: u64, pc: u64) -> Option<Hit>
+    requires { RowAsked section.now layout i (distance address pc) }
+    ensures { result ≡ row_for (distance address pc) (function_in section.now i) }
+{
+    let reached = reached_in(section, layout, i, address, pc);
     let abi = layout.abi;
     let from = layout.area as usize;
     scan_rows(
         &section[from..],
         shape_of(abi),
-        entry,
-        block_offset(entry, past),
+        reached.entry,
+        reached.offset,
     )
 }
 
-fn with_row(function: u64, scan: Scan) -> Outcome
+fn with_row(function: u64, scan: Option<Hit>) -> Outcome
     ensures { result ≡ with_row function scan }
 {
     match scan {
-        Scan::Missed => Outcome::NoRow { function: function },
-        Scan::Hit { row, number } => Outcome::Found {
-            row: row,
-            function: function,
+        None => Outcome::NoRow { function },
+        Some(Hit { row, number }) => Outcome::Found {
+            row,
+            function,
             number: number as u64,
         },
     }
@@ -75,10 +97,7 @@ fn with_cover(section: &[u8], layout: Layout, cover: Cover, address: u64, pc: u6
     match cover {
         Cover::Nobody => Outcome::NoFunction,
         Cover::One(i) => with_row(i, row_for(section, layout, i, address, pc)),
-        Cover::Two(first, second) => Outcome::Dispute {
-            first: first,
-            second: second,
-        },
+        Cover::Two(first, second) => Outcome::Dispute { first, second },
     }
 }
 

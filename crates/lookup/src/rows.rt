@@ -14,11 +14,11 @@ use section::entry::{Entry, type_of};
 use section::row::{Row, info_at, row_at, row_length, row_start_at};
 use section::shape::Shape;
 
-// The last row at or below, with its number in the function, or that there is none.
+// The last row at or below, with its number in the function.
 #[derive(Clone, Copy)]
-pub enum Scan {
-    Missed,
-    Hit { row: Row, number: u32 },
+pub struct Hit {
+    pub row: Row,
+    pub number: u32,
 }
 
 // How many rows, from the first on, start at or below, and where the last of them stands.
@@ -65,7 +65,7 @@ fn told_at(area: &[u8], code: usize, at: usize, known: Told) -> Told
         return known;
     }
     Told {
-        info: info,
+        info,
         length: row_length(area, code, at),
     }
 }
@@ -77,24 +77,16 @@ fn pass_rows(area: &[u8], order: Order, code: usize, first: usize, count: u32, o
 {
     let mut place = first;
     let mut at = first;
-    let mut k = 0;
     let mut told = no_offsets(code);
-    while k < count {
+    for k in 0..count {
         if !starts_by(area, order, code, at, o) {
-            return Stop {
-                rows: k,
-                place: place,
-            };
+            return Stop { rows: k, place };
         }
         told = told_at(area, code, at, told);
         place = at;
-        at = at + told.length;
-        k = k + 1;
+        at += told.length;
     }
-    Stop {
-        rows: k,
-        place: place,
-    }
+    Stop { rows: count, place }
 }
 
 // The rows by their type, told apart outside the loop, so that each loop is compiled for its own width of start.
@@ -109,8 +101,8 @@ fn stop_at(area: &[u8], order: Order, code: usize, first: usize, count: u32, o: 
     }
 }
 
-// The last row of an entry that starts at or below o.
-pub fn scan_rows(area: &[u8], shape: Shape, entry: Entry, o: u64) -> Scan
+// The last row of an entry that starts at or below o, if one does.
+pub fn scan_rows(area: &[u8], shape: Shape, entry: Entry, o: u64) -> Option<Hit>
     requires { entry_fault area.now shape entry ≡ Sound }
     ensures { result ≡ last_row o 0 (listed (row_in area.now shape entry) entry.rows 0) }
 {
@@ -118,10 +110,10 @@ pub fn scan_rows(area: &[u8], shape: Shape, entry: Entry, o: u64) -> Scan
     let code = type_of(entry.info);
     let stop = stop_at(area, order, code, entry.first as usize, entry.rows, o);
     if stop.rows == 0 {
-        return Scan::Missed;
+        return None;
     }
-    Scan::Hit {
+    Some(Hit {
         row: row_at(area, shape, code, stop.place),
         number: stop.rows - 1,
-    }
+    })
 }

@@ -8,11 +8,11 @@ ghost use Rattle.lookup.specs.Inner.Requires.{TableOf, HeaderOf};
 ghost use Rattle.lookup.specs.Inner.Search.{past_start, past_in, first_where, landed_on, search_of};
 ghost use Rattle.numbers.specs.Inner.Held.{Held, Near};
 ghost use Rattle.numbers.specs.Start.{distance};
-ghost use Rattle.section.specs.Entry.{position_at};
 ghost use Rattle.section.specs.Meaning.{Function, entry_in, function_in, functions_of, function_start};
 
 use numbers::field::{Order, u32_at};
 use numbers::held::{near_of, rank_of};
+use section::entry::position_at;
 use section::header::{Layout, order_at};
 
 // How the least field, -2^31, is held: 2^31.
@@ -40,33 +40,15 @@ pub struct Landing {
     pub compared: u64,
 }
 
-// How far an address is past the start of a function that covers it, or that the function does not.
-#[derive(Clone, Copy)]
-pub enum Past {
-    Outside,
-    By(u64),
-}
-
 // ---- the fields of entry i: no other of its bytes is read
-
-// What the start field at a place counts from: that place under flag 0x4, else the section.
-fn position_at(relative: bool, at: usize) -> usize
-    ensures value { result ≡ position_at relative at }
-    ensures range { result ≤ at }
-{
-    if relative {
-        return at;
-    }
-    0
-}
 
 // How far the start of function i is above the least field, -2^31. Of its entry only the start field is read.
 fn rank_at(section: &[u8], layout: Layout, order: Order, i: u64) -> u64
     requires { TableOf section.now layout order × (i < layout.functions) }
     ensures { Held (function_start section.now i) (result + 2 ^ 31) }
 {
-    let at = (layout.table + 20 * i) as usize;
-    rank_of(u32_at(section, at, order)) + position_at(layout.relative, at) as u64
+    let place = (layout.table + 20 * i) as u32;
+    rank_of(u32_at(section, place as usize, order)) + position_at(layout.relative, place) as u64
 }
 
 // The size of function i. Of its entry only this field is read.
@@ -95,10 +77,7 @@ fn past_start(start: u64, d: u64) -> u64
 fn is_within(start: u64, size: u32, d: u64) -> bool
     ensures { (f z : ℤ) → Held f start → Near z d → result ≡ le_z f z && lt_z z (f +ℤ pos size) }
 {
-    if past_start(start, d) < size as u64 {
-        return true;
-    }
-    false
+    past_start(start, d) < size as u64
 }
 
 // Whether function i covers.
@@ -116,14 +95,13 @@ fn next_covering(section: &[u8], layout: Layout, order: Order, d: u64, from: u64
     ensures value { (z : ℤ) → Near z d → result ≡ first_where (λ i. covers z (function_in section.now i)) (layout.functions - from) from }
     ensures range { result ≤ layout.functions }
 {
-    let mut i = from;
-    while i < layout.functions as u64 {
+    let end = layout.functions as u64;
+    for i in from..end {
         if covers_at(section, layout, order, i, d) {
             return i;
         }
-        i = i + 1;
     }
-    i
+    end
 }
 
 // The lowest two that cover, if so many do.
@@ -154,7 +132,8 @@ fn bound_of(d: u64) -> u64
     d - LEAST + 1
 }
 
-// The halving rule over all entries.
+// The halving rule over all entries. It is inlined at both of its calls, since a call would cost each frame of a trace.
+#[inline(always)]
 fn halve(section: &[u8], layout: Layout, order: Order, d: u64) -> Landing
     requires { TableOf section.now layout order }
     ensures value { (z : ℤ) → Near z d → result ≡ landing z (functions_of section.now) }
@@ -166,17 +145,14 @@ fn halve(section: &[u8], layout: Layout, order: Order, d: u64) -> Landing
     let mut compared = 0;
     while low < high {
         let middle = (low + high) / 2;
-        compared = compared + 1;
+        compared += 1;
         if rank_at(section, layout, order, middle) < bound {
             low = middle + 1;
         } else {
             high = middle;
         }
     }
-    Landing {
-        low: low,
-        compared: compared,
-    }
+    Landing { low, compared }
 }
 
 // Whether the function landed on, the one before `low`, covers. In a sorted section no other one can.
@@ -193,46 +169,25 @@ fn landed_on(section: &[u8], layout: Layout, order: Order, low: u64, d: u64) -> 
     Cover::Nobody
 }
 
-// Where the halving rule lands for a PC, for those who do not ask whether the section is in order. It does not call `halve`: a second
-// caller would keep that loop from being compiled into a lookup, and a trace makes one for each frame.
+// Where the halving rule lands for a PC, for those who do not ask whether the section is in order.
 pub fn land(section: &[u8], layout: Layout, address: u64, pc: u64) -> Landing
     requires { HeaderOf section.now layout }
     ensures value { result ≡ landing (distance address pc) (functions_of section.now) }
     ensures range { result.low ≤ layout.functions }
 {
-    let order = order_at(section);
-    let bound = bound_of(near_of(address, pc));
-    let mut low = 0;
-    let mut high = layout.functions as u64;
-    let mut compared = 0;
-    while low < high {
-        let half = (low + high) / 2;
-        compared = compared + 1;
-        if rank_at(section, layout, order, half) < bound {
-            low = half + 1;
-        } else {
-            high = half;
-        }
-    }
-    Landing {
-        low: low,
-        compared: compared,
-    }
+    halve(section, layout, order_at(section), near_of(address, pc))
 }
 
 // How far d is past a start, where a function of this size covers; the start and d are held.
-fn past_within(start: u64, size: u32, d: u64) -> Past
+fn past_within(start: u64, size: u32, d: u64) -> Option<u64>
     ensures { (f : Function) (z : ℤ) → Held f.start start → Near z d → f.size ≡ size → result ≡ past_in z f }
 {
     let past = past_start(start, d);
-    if past < size as u64 {
-        return Past::By(past);
-    }
-    Past::Outside
+    if past < size as u64 { Some(past) } else { None }
 }
 
 // How far a PC is past the start of function i, where that covers it.
-pub fn past_in(section: &[u8], layout: Layout, i: u64, address: u64, pc: u64) -> Past
+pub fn past_in(section: &[u8], layout: Layout, i: u64, address: u64, pc: u64) -> Option<u64>
     requires { HeaderOf section.now layout × (i < layout.functions) }
     ensures { result ≡ past_in (distance address pc) (function_in section.now i) }
 {

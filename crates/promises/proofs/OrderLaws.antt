@@ -13,6 +13,7 @@ use native.Mathlib.Nat.{zero-add, add-zero}
 use native.Mathlib.Omega.{arith}
 use lib.IntN.{ℤ}
 use lib.ListN.{length, get_or}
+use Rattle.std.specs.Prelude.{Option, Some, None}
 use Rattle.numbers.specs.Start.{distance}
 use Rattle.section.specs.Header.{layout_from, layout_of}
 use Rattle.section.specs.Meaning.{Function, shape_of, functions_of}
@@ -24,8 +25,7 @@ use Rattle.lookup.specs.Numbers.{number_of_unfound}
 use Rattle.lookup.specs.Computed.Answers.{with_row, with_cover, outcome, answer, answer_of, look_in}
 use Rattle.lookup.specs.Computed.Covering.{covers, covering_from, covering, cover_of}
 use Rattle.lookup.specs.Computed.Rows.{row_for}
-use Rattle.lookup.specs.declared.rows.Scan.{Scan}
-use Rattle.lookup.specs.declared.rows.Scan.TheVariants.{Missed, Hit}
+use Rattle.lookup.specs.declared.rows.Hit.{Hit}
 use Rattle.lookup.proofs.CoveringLaws.{by_value}
 use Rattle.promises.specs.SameFunctions.{SameFunctions}
 use Rattle.promises.specs.Inner.Deciding.{by_parts, Row-discrete, Function-discrete}
@@ -53,10 +53,10 @@ finding_among d (f ∷ []) = finding_of (with_row 0 (row_for d f))
 finding_among d (f ∷ g ∷ more) = refuses 22
 
 -- the index is no part of a finding
-no_index : (i j : ℕ) (scan : Scan) → finding_of (with_row i scan) ≡ finding_of (with_row j scan)
+no_index : (i j : ℕ) (scan : Option Hit) → finding_of (with_row i scan) ≡ finding_of (with_row j scan)
 unfolding finding_of number_of_unfound with_row
-no_index i j Missed = refl
-no_index i j (Hit row number) = refl
+no_index i j None = refl
+no_index i j (Some hit) = refl
 
 module _ (d : ℤ) (all : List Function) where
   -- function i covers, and then those of the rest that do

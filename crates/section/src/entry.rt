@@ -51,7 +51,7 @@ pub fn does_repeat(info: u8) -> bool
 }
 
 // What the start field at a place counts from: that place under flag 0x4, else the section.
-fn position_at(relative: bool, place: u32) -> u32
+pub fn position_at(relative: bool, place: u32) -> u32
     ensures { result ≡ position_at relative place }
 {
     if relative {

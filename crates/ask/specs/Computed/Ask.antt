@@ -1,6 +1,6 @@
 -- Request 05: "Add a lookup that reads only the header, the entries the halving rule compares, and the rows of the one function it lands
 -- on", in the request's own order. When each answer is given, in plain words, is said in Cases.
-use Rattle.std.specs.Prelude.{ℕ, zero, suc, true, false, List, ℤ}
+use Rattle.std.specs.Prelude.{ℕ, zero, suc, true, false, List, ℤ, Option, Some, None}
 use Rattle.numbers.specs.Start.{distance}
 use Rattle.section.specs.Header.{layout_of}
 use Rattle.section.specs.Meaning.{area_of, shape_of, entry_in, function_in, functions_of}
@@ -9,8 +9,7 @@ use Rattle.accept.specs.Fault.{Fault, Sound, Breaks}
 use Rattle.lookup.specs.Halving.{landing}
 use Rattle.lookup.specs.Computed.Covering.{covers}
 use Rattle.lookup.specs.Computed.Rows.{row_for}
-use Rattle.lookup.specs.declared.rows.Scan.{Scan}
-use Rattle.lookup.specs.declared.rows.Scan.TheVariants.{Missed, Hit}
+use Rattle.lookup.specs.declared.rows.Hit.{Hit}
 use Rattle.ask.specs.declared.answer.AskAnswer.{AskAnswer}
 use Rattle.ask.specs.declared.answer.AskAnswer.TheVariants.{Found, Unsound, Unsorted, NoFunction, NoRow, Damaged}
 
@@ -20,12 +19,12 @@ ask_after (Breaks number) next = Unsound number
 ask_after Sound next = next
 
 -- "Otherwise it answers .. 23 or the row by the usual rules on what it read"
-unfoldable pub with_row : ℕ → ℕ → Scan → AskAnswer
-with_row i compared Missed = NoRow i compared
-with_row i compared (Hit row number) = Found i compared number row
+unfoldable pub with_row : ℕ → ℕ → Option Hit → AskAnswer
+with_row i compared None = NoRow i compared
+with_row i compared (Some hit) = Found i compared hit.number hit.row
 
 -- "If the function landed on covers d and breaks 9 to 13, it answers 44 with its index and the count."
-unfoldable pub checked_row : Fault → ℕ → ℕ → Scan → AskAnswer
+unfoldable pub checked_row : Fault → ℕ → ℕ → Option Hit → AskAnswer
 checked_row (Breaks number) i compared scan = Damaged i compared
 checked_row Sound i compared scan = with_row i compared scan
 

@@ -1,6 +1,6 @@
 -- The rows of one entry by themselves, of a PC that is `past` the function's start, as one walk checks them and looks through them: what
 -- `in_function` says of the function's own entry comes to this (`past_answer`).
-use Rattle.std.specs.Prelude.{ℕ, ◌-◌, Bool, true, false, ◌&&◌, ◌||◌, List, leb, ltb, eqb, length}
+use Rattle.std.specs.Prelude.{ℕ, ◌-◌, Bool, true, false, ◌&&◌, ◌||◌, List, leb, ltb, eqb, length, Option, Some, None}
 use Rattle.section.specs.Entry.{repeats}
 use Rattle.section.specs.Meaning.{listed, area_of, shape_of, entry_in, block_of, row_in}
 use Rattle.section.specs.Row.{row_of}
@@ -9,8 +9,7 @@ use Rattle.section.specs.declared.shape.Shape.{Shape}
 use Rattle.accept.specs.Computed.Checks.{wrong_entry_info, rows_fault, entry_fault}
 use Rattle.accept.specs.Fault.{Fault, Sound, Breaks}
 use Rattle.lookup.specs.Computed.Rows.{in_block, last_row}
-use Rattle.lookup.specs.declared.rows.Scan.{Scan}
-use Rattle.lookup.specs.declared.rows.Scan.TheVariants as scan
+use Rattle.lookup.specs.declared.rows.Hit as lookup
 use Rattle.lookup.specs.declared.rows.Stop.{Stop}
 use Rattle.lookup.specs.Inner.Search.{stop_of}
 use Rattle.ask.specs.declared.answer.AskAnswer.{AskAnswer}
@@ -43,10 +42,10 @@ unfoldable pub sought_at : List ℕ → Shape → ℕ → Stop → Sought
 sought_at area shape code stop =
     elim (eqb stop.rows 0) [ true ↦ Missed | false ↦ Hit (row_of area shape code stop.place) (stop.rows - 1) ]
 
-unfoldable pub sought_by : Fault → Scan → Sought
+unfoldable pub sought_by : Fault → Option lookup.Hit → Sought
 sought_by (Breaks number) found = Broken
-sought_by Sound scan.Missed = Missed
-sought_by Sound (scan.Hit row number) = Hit row number
+sought_by Sound None = Missed
+sought_by Sound (Some hit) = Hit hit.row hit.number
 
 unfoldable pub sought_in : List ℕ → Shape → Entry → ℕ → Sought
 sought_in area shape entry past =

@@ -1,5 +1,5 @@
 -- Document 01, "Finding the row": the answer of a lookup, by its cases. When each is given, in plain words, is said in Cases.
-use Rattle.std.specs.Prelude.{ℕ, Bool, List, ℤ, get_or}
+use Rattle.std.specs.Prelude.{ℕ, Bool, List, ℤ, get_or, Option, Some, None}
 use Rattle.numbers.specs.Start.{distance}
 use Rattle.section.specs.Header.{layout_of}
 use Rattle.section.specs.Meaning.{Function, functions_of}
@@ -12,15 +12,14 @@ use Rattle.lookup.specs.Computed.Rows.{row_for}
 use Rattle.lookup.specs.declared.answer.Answer.{Answer}
 use Rattle.lookup.specs.declared.answer.Outcome.{Outcome}
 use Rattle.lookup.specs.declared.answer.Outcome.TheVariants.{Found, Unsound, NoFunction, Dispute, NoRow}
-use Rattle.lookup.specs.declared.rows.Scan.{Scan}
-use Rattle.lookup.specs.declared.rows.Scan.TheVariants.{Missed, Hit}
+use Rattle.lookup.specs.declared.rows.Hit.{Hit}
 use Rattle.lookup.specs.declared.search.Cover.{Cover}
 use Rattle.lookup.specs.declared.search.Cover.TheVariants.{Nobody, One, Two}
 
 -- "23 when there is none, with the function's index. A found answer gives the function's index and the row"
-unfoldable pub with_row : ℕ → Scan → Outcome
-with_row i Missed = NoRow i
-with_row i (Hit row number) = Found row i number
+unfoldable pub with_row : ℕ → Option Hit → Outcome
+with_row i None = NoRow i
+with_row i (Some hit) = Found hit.row i hit.number
 
 -- "21: no function covers; no index is returned. 22: two or more do ..; the two lowest indexes are returned. With one
 -- function", its row

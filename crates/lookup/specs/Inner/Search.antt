@@ -1,7 +1,7 @@
 -- How it is looked for: a section that is not sorted is scanned, a sorted one is halved, and the rows of one function are walked
 -- until one starts too late. Defined on any list of functions and any rows; on an accepted section it comes to what `covering`
 -- and `last_row` say (`halving_finds_covering`, `stop_last`).
-use Rattle.std.specs.Prelude.{ℕ, zero, suc, ◌+◌, ◌-◌, ◌^◌, Bool, true, false, List, leb, ℤ, ◌-ℤ◌, get_or}
+use Rattle.std.specs.Prelude.{ℕ, zero, suc, ◌+◌, ◌-◌, ◌^◌, Bool, true, false, List, leb, ℤ, ◌-ℤ◌, get_or, Option, Some, None}
 use Rattle.numbers.specs.Inner.Held.{natural}
 use Rattle.numbers.specs.declared.field.Order.{Order}
 use Rattle.section.specs.Meaning.{Function}
@@ -12,8 +12,6 @@ use Rattle.lookup.specs.declared.rows.Stop.{Stop}
 use Rattle.lookup.specs.declared.rows.Told.{Told}
 use Rattle.lookup.specs.declared.search.Cover.{Cover}
 use Rattle.lookup.specs.declared.search.Cover.TheVariants.{Nobody, One}
-use Rattle.lookup.specs.declared.search.Past.{Past}
-use Rattle.lookup.specs.declared.search.Past.TheVariants.{Outside, By}
 use Rattle.lookup.specs.declared.search.Search.{Search}
 
 -- ---- functions
@@ -23,8 +21,8 @@ unfoldable pub past_start : ℕ → ℕ → ℕ
 past_start start d = elim (leb start d) [ true ↦ d - start | false ↦ d + 2 ^ 64 - start ]
 
 -- how far d is past the start of a function, where it covers
-unfoldable pub past_in : ℤ → Function → Past
-past_in d f = elim (covers d f) [ true ↦ By (natural (d -ℤ f.start)) | false ↦ Outside ]
+unfoldable pub past_in : ℤ → Function → Option ℕ
+past_in d f = elim (covers d f) [ true ↦ Some (natural (d -ℤ f.start)) | false ↦ None ]
 
 -- the first index, of `left` from i on, of which a test is true, and one past the last where there is none
 unfoldable pub first_where : (ℕ → Bool) → ℕ → ℕ → ℕ

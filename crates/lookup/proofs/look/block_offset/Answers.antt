@@ -12,6 +12,6 @@ pub returns-then-does_repeat : goal.returns-then-does_repeat
 unfolding in_block block_of
 returns-then-does_repeat c = rw (sym c.does_repeat.ensures ∙ c.if-does_repeat.true, block_of) c.left_over.ensures
 
-pub returns : goal.returns
+pub returns-else-does_repeat : goal.returns-else-does_repeat
 unfolding in_block block_of
-returns c = rw (sym c.does_repeat.ensures ∙ c.if-does_repeat.false, block_of)
+returns-else-does_repeat c = rw (sym c.does_repeat.ensures ∙ c.if-does_repeat.false, block_of)

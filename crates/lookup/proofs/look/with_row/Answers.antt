@@ -3,10 +3,10 @@
 use Rattle.lookup.specs.Computed.Answers.{with_row}
 use Rattle.lookup.proofs.look.with_row.Goals as goal
 
-pub returns-in-Missed : goal.returns-in-Missed
+pub returns-in-None : goal.returns-in-None
 unfolding with_row
-returns-in-Missed c = rw c.in-Missed.is
+returns-in-None c = rw c.in-None.is
 
-pub returns-in-Hit : goal.returns-in-Hit
+pub returns-in-Some : goal.returns-in-Some
 unfolding with_row
-returns-in-Hit c = rw c.in-Hit.is
+returns-in-Some c = rw c.in-Some.is

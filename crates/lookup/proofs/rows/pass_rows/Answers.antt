@@ -50,4 +50,6 @@ loop-k-preserved c =
     )
 
 pub returns : goal.returns
-returns c = passing_ends c.loop-k.invariant.0 c.loop-k-test.false
+returns c =
+    let last : c.loop-k.k ≡ c.args.count = omega arith in
+    rw last at (passing_ends c.loop-k.invariant.0 c.loop-k-test.false)

@@ -1,7 +1,6 @@
 -- `rows::pass_rows` passes row after row while they start at or below o.
 -- Assumes nothing.
 use mathlib.Core.Path.{◌≡◌}
-use Prim.Native.Nat.{◌-◌}
 use Rattle.lookup.specs.Inner.Search.{told_by}
 use Rattle.lookup.proofs.PassedLaws.{Passed}
 use Rattle.lookup.proofs.rows.pass_rows.Given as goal
@@ -10,6 +9,3 @@ use Rattle.lookup.proofs.rows.pass_rows.Given as goal
 abbrev pub invariant-loop-k : goal.invariant-loop-k
 invariant-loop-k l =
     Passed l.area l.order l.code l.first l.count l.o l.place l.at l.k × (l.told ≡ told_by l.code l.told.info)
-
-abbrev pub decreases-loop-k : goal.decreases-loop-k
-decreases-loop-k l = l.count - l.k

@@ -1,7 +1,7 @@
 -- `search::next_covering` passes by functions that do not cover: the first that does is the same from each of them on.
 -- Assumes nothing.
 use mathlib.Core.Path.{◌≡◌}
-use Prim.Native.Nat.{◌-◌, ◌≤◌}
+use Prim.Native.Nat.{◌-◌}
 use lib.IntN.{ℤ}
 use Rattle.numbers.specs.Inner.Held.{Near}
 use Rattle.section.specs.Meaning.{function_in}
@@ -11,11 +11,7 @@ use Rattle.lookup.proofs.search.next_covering.Given as goal
 
 abbrev pub invariant-loop-i : goal.invariant-loop-i
 invariant-loop-i l =
-    (l.i ≤ l.layout.functions)
-    × ((z : ℤ)
+    (z : ℤ)
     → Near z l.d
     → first_where (λ j. covers z (function_in l.section j)) (l.layout.functions - l.i) l.i
-    ≡ first_where (λ j. covers z (function_in l.section j)) (l.layout.functions - l.from) l.from)
-
-abbrev pub decreases-loop-i : goal.decreases-loop-i
-decreases-loop-i l = l.layout.functions - l.i
+    ≡ first_where (λ j. covers z (function_in l.section j)) (l.layout.functions - l.from) l.from

@@ -3,17 +3,23 @@
 use borrow.Author.Rules.{rules}
 use native.Mathlib.Omega.{arith}
 use mathlib.Core.Path.{◌≡◌}
-use Prim.Native.Nat.{◌+◌, ◌<◌, ◌^◌}
+use Prim.Native.Nat.{◌+◌, ◌*◌, ◌<◌, ◌^◌}
 use Rattle.numbers.specs.Inner.Held.{rank}
 use Rattle.numbers.proofs.HeldLaws.{held_rank}
-use Rattle.lookup.proofs.TableLaws.{entry_room, entry_place, field_held}
+use Rattle.lookup.proofs.TableLaws.{entry_room, entry_place, position_below, field_held}
 use Rattle.lookup.proofs.search.rank_at.Goals as goal
 
-pub overflow_mul-at : goal.overflow_mul-at
-overflow_mul-at c = let pre = c.requires in omega (arith, entry_place pre.0.header _ pre.1)
+pub overflow_mul-place : goal.overflow_mul-place
+overflow_mul-place c = let pre = c.requires in omega (arith, entry_place pre.0.header _ pre.1)
 
-pub overflow_add-at : goal.overflow_add-at
-overflow_add-at c = let pre = c.requires in omega (arith, entry_place pre.0.header _ pre.1)
+pub overflow_add-place : goal.overflow_add-place
+overflow_add-place c = let pre = c.requires in omega (arith, entry_place pre.0.header _ pre.1)
+
+pub overflow_cast-place : goal.overflow_cast-place
+overflow_cast-place c = let pre = c.requires in omega (arith, entry_place pre.0.header _ pre.1)
+
+pub overflow_cast-place-2 : goal.overflow_cast-place-2
+overflow_cast-place-2 c = let pre = c.requires in omega (arith, entry_place pre.0.header _ pre.1)
 
 pub u32_at-requires : goal.u32_at-requires
 u32_at-requires c = let pre = c.requires in omega (arith, entry_room pre.0.header _ pre.1)
@@ -21,12 +27,12 @@ u32_at-requires c = let pre = c.requires in omega (arith, entry_room pre.0.heade
 pub overflow_add-result : goal.overflow_add-result
 overflow_add-result c =
     let pre = c.requires in
-    omega (arith, c.rank_of.ensures.range, c.position_at.ensures.range, entry_place pre.0.header _ pre.1)
+    omega (arith, c.rank_of.ensures.range, c.position_at.ensures, position_below c.args.layout.relative (c.args.layout.table + 20 * c.args.i), entry_place pre.0.header _ pre.1)
 
 pub returns : goal.returns
 returns c =
-    let small : c.position_at.result < 2 ^ 32 = omega (arith, c.position_at.ensures.range, entry_place c.requires.0.header _ c.requires.1) in
+    let small : c.position_at.result < 2 ^ 32 = omega (arith, c.position_at.type_inv) in
     let held = held_rank c.u32_at.result c.position_at.result (search rules) small in
     let same : c.rank_of.result + c.position_at.result + 2147483648
     ≡ rank c.u32_at.result + 2147483648 + c.position_at.result = omega (arith, c.rank_of.ensures.value) in
-    field_held c.requires.0 _ c.u32_at.ensures c.position_at.ensures.value (rw same held)
+    field_held c.requires.0 _ c.u32_at.ensures c.position_at.ensures (rw same held)
