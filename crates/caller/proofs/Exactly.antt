@@ -24,7 +24,7 @@ use Rattle.lookup.specs.Cases.{NoneCovers, SomeTwoCover, FoundCase, NoRowCase, r
 use Rattle.lookup.specs.Finding.{Finding}
 use Rattle.lookup.specs.Numbers.{no_function, dispute, no_row, number_of_unfound}
 use Rattle.lookup.specs.Computed.Answers.{lookup_of, look_in}
-use Rattle.lookup.specs.declared.answer.Outcome.TheVariants.{Found}
+use Rattle.lookup.specs.Outcome.{Found}
 use Rattle.lookup.proofs.CoveringLaws.{is_true}
 use Rattle.lookup.proofs.Exactly as lookup
 use Rattle.caller.specs.Cases.{Rule41, WindowFits, NoMark, Aarch64, Rule24, Rule25, Rule26, Rule27, Rule28, LookedUp, NothingAsked, RowFound, CfaAt, WordsAt, OnRefusal, OnStep, CallerCase, Case}

@@ -21,7 +21,7 @@ use Rattle.accept.proofs.Exactly.{accepted_exactly_when, given_exactly_when}
 use Rattle.lookup.specs.Cases.{NoneCovers, LowestTwo}
 use Rattle.lookup.specs.Numbers.{no_function, dispute, no_row}
 use Rattle.lookup.specs.Computed.Answers.{lookup_of}
-use Rattle.lookup.specs.declared.answer.Outcome.TheVariants as outcome
+use Rattle.lookup.specs.Outcome as outcome
 use Rattle.lookup.proofs.Exactly as lookups
 use Rattle.caller.specs.Cases.{WindowFits, Outside, Rule24, CfaIs, LookedUp, RowFound, CfaAt, WordsAt}
 use Rattle.caller.specs.Frame.{cfa_of}

@@ -22,7 +22,7 @@ use Rattle.accept.proofs.FaultLaws.{accepted_or_refused}
 use Rattle.lookup.specs.Numbers.{no_function, number_of_unfound, unfound, number_of_lookup_cause, outcome_number}
 use Rattle.lookup.specs.Computed.Answers.{lookup_of}
 use Rattle.lookup.specs.Inner.Opened.{lookup_opened}
-use Rattle.lookup.specs.declared.answer.Outcome.TheVariants.{Found}
+use Rattle.lookup.specs.Outcome.{Found}
 use Rattle.lookup.proofs.NumberLaws.{lookup_given}
 use Rattle.caller.specs.Cases.{Rule41}
 use Rattle.caller.specs.Numbers.{number_of_step_cause}

@@ -9,7 +9,7 @@ use Rattle.accept.specs.declared.verdict.Rule.{Rule}
 use Rattle.accept.specs.Verdict as verdict
 use Rattle.lookup.specs.Cases.{OnLookup}
 use Rattle.lookup.specs.Numbers.{LookupCause, number_of_lookup_cause, outcome_number}
-use Rattle.lookup.specs.declared.answer.Outcome.TheVariants as outcome
+use Rattle.lookup.specs.Outcome as outcome
 use Rattle.caller.specs.Cases.{WindowFits, OnStep}
 use Rattle.caller.specs.Numbers.{StepCause, number_of_step_cause, step_number, step_indexes, step_registers}
 use Rattle.caller.specs.declared.registers.Registers.{Registers}

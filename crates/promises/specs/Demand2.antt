@@ -8,7 +8,7 @@ use Rattle.accept.specs.Rules.{Obeys}
 use Rattle.accept.specs.Verdict.{Accepted}
 use Rattle.lookup.specs.Cases as lookup
 use Rattle.lookup.specs.Numbers.{outcome_indexes, outcome_row}
-use Rattle.lookup.specs.declared.answer.Outcome.{Outcome}
+use Rattle.lookup.specs.Outcome.{Outcome}
 use Rattle.caller.specs.Cases.{CallerCase}
 use Rattle.caller.specs.InBytes.{CallerInBytes}
 use Rattle.caller.specs.declared.registers.Registers.{Registers}

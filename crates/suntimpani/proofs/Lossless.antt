@@ -35,9 +35,9 @@ use Rattle.listing.specs.declared.rows.RowPlace.{RowPlace}
 use Rattle.listing.specs.declared.rows.RowTurn.{RowTurn}
 use Rattle.lookup.specs.Numbers.{number_of_unfound, outcome_number, outcome_indexes, outcome_row}
 use Rattle.lookup.specs.Computed.Answers.{lookup_of}
-use Rattle.lookup.specs.declared.answer.Answer.{Answer}
-use Rattle.lookup.specs.declared.answer.Outcome.{Outcome}
-use Rattle.lookup.specs.declared.answer.Outcome.TheVariants as outcome
+use Rattle.lookup.specs.Outcome.{Answer}
+use Rattle.lookup.specs.Outcome.{Outcome}
+use Rattle.lookup.specs.Outcome as outcome
 use Rattle.lookup.proofs.Exactly as looks
 use Rattle.caller.specs.Cases as steps
 use Rattle.caller.specs.Numbers.{number_of_step_cause, step_number, step_indexes, step_registers}

@@ -12,9 +12,9 @@ use Rattle.listing.specs.declared.function.Kind.{Kind}
 use Rattle.listing.specs.declared.function.Kind.TheVariants.{Plain, Repeated}
 use Rattle.listing.specs.declared.rows.RowPlace.{RowPlace}
 use Rattle.listing.specs.declared.rows.RowTurn.{RowTurn}
-use Rattle.lookup.specs.declared.answer.Answer.{Answer}
-use Rattle.lookup.specs.declared.answer.Outcome.{Outcome}
-use Rattle.lookup.specs.declared.answer.Outcome.TheVariants as outcome
+use Rattle.lookup.specs.Outcome.{Answer}
+use Rattle.lookup.specs.Outcome.{Outcome}
+use Rattle.lookup.specs.Outcome as outcome
 use Rattle.caller.specs.declared.registers.Step.{Step}
 use Rattle.caller.specs.declared.registers.Step.TheVariants as step
 use Rattle.trace.specs.Frames.{TraceReply, traced_as}

@@ -4,8 +4,8 @@ use Rattle.accept.specs.Verdict.{Verdict}
 use Rattle.accept.specs.Verdict as verdict
 use Rattle.listing.specs.declared.function.Described.{Described}
 use Rattle.listing.specs.declared.function.Described.TheVariants as described
-use Rattle.lookup.specs.declared.answer.Outcome.{Outcome}
-use Rattle.lookup.specs.declared.answer.Outcome.TheVariants as outcome
+use Rattle.lookup.specs.Outcome.{Outcome}
+use Rattle.lookup.specs.Outcome as outcome
 use Rattle.ask.specs.declared.answer.AskAnswer.{AskAnswer}
 use Rattle.ask.specs.declared.answer.AskAnswer.TheVariants as ask
 use Rattle.caller.specs.declared.registers.Step.{Step}
