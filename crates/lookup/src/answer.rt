@@ -1,5 +1,4 @@
 // What a lookup answers.
-use accept::verdict::Refusal;
 use section::row::Row;
 
 // The one function that covers, by its index, and its row, with the row's number in the function.
@@ -12,9 +11,7 @@ pub struct Found {
 
 // Why there is no row. Each case carries what the specification says that it carries.
 #[derive(Clone, Copy)]
-pub enum LookupRefusal {
-    // 1 to 15: the section breaks a rule.
-    Unsound(Refusal),
+pub enum Unfound {
     // 21: no function covers.
     NoFunction,
     // 22: two or more cover; the two lowest indexes.
@@ -23,9 +20,9 @@ pub enum LookupRefusal {
     NoRow { function: u64 },
 }
 
-// What is found, and the number of entries compared.
+// What is found in an accepted section, and the number of entries compared.
 #[derive(Clone, Copy)]
 pub struct Answer {
-    pub outcome: Result<Found, LookupRefusal>,
+    pub outcome: Result<Found, Unfound>,
     pub compared: u64,
 }
