@@ -36,8 +36,8 @@ use Rattle.caller.specs.declared.place.Values.{Values}
 use Rattle.caller.specs.declared.place.Needed.{Needed}
 use Rattle.caller.specs.declared.place.Needed.TheVariants.{Ra, Fp}
 use Rattle.caller.specs.declared.registers.Registers.{Registers}
-use Rattle.caller.specs.declared.registers.Step.{Step}
-use Rattle.caller.specs.declared.registers.Step.TheVariants.{Caller, Unsound, Refused}
+use Rattle.caller.specs.Step.{Step}
+use Rattle.caller.specs.Step.{Caller, Unsound, Refused}
 use Rattle.caller.specs.declared.registers.Process.{Process}
 use Rattle.caller.proofs.MachineLaws.{rule_24_bytes, rule_27_bytes, cfa_in_bytes, ra_in_bytes, fp_in_bytes, pc_in_bytes}
 use Rattle.caller.proofs.NumberLaws as numbers

@@ -5,8 +5,8 @@ use Rattle.lookup.specs.Outcome.{Outcome}
 use Rattle.lookup.specs.Outcome as outcome
 use Rattle.caller.specs.Numbers.{unfound, signed, cfa_outside, cfa_low, ra_lost, word_outside, number_of_refusal, window, number_of_step_cause}
 use Rattle.caller.specs.declared.registers.Registers.{Registers}
-use Rattle.caller.specs.declared.registers.Step.{Step}
-use Rattle.caller.specs.declared.registers.Step.TheVariants.{Caller, Unsound, Refused}
+use Rattle.caller.specs.Step.{Step}
+use Rattle.caller.specs.Step.{Caller, Unsound, Refused}
 use Rattle.explain.specs.declared.why.Coverers.{Coverers}
 use Rattle.explain.specs.declared.why.Looked.{Looked}
 use Rattle.explain.specs.declared.why.Looked.TheVariants as looked

@@ -4,7 +4,7 @@ use Rattle.std.specs.Prelude.{List, ℕ}
 use Rattle.accept.specs.Verdict.{Verdict}
 use Rattle.lookup.specs.Outcome.{Answer}
 use Rattle.caller.specs.declared.registers.Registers.{Registers}
-use Rattle.caller.specs.declared.registers.Step.{Step}
+use Rattle.caller.specs.Step.{Step}
 use Rattle.caller.specs.declared.registers.Process.{Process}
 use Rattle.trace.specs.Frames.{TraceReply}
 

@@ -13,7 +13,7 @@ use Rattle.lookup.specs.Outcome as outcome
 use Rattle.caller.specs.Cases.{WindowFits, OnStep}
 use Rattle.caller.specs.Numbers.{StepCause, number_of_step_cause, step_number, step_indexes, step_registers}
 use Rattle.caller.specs.declared.registers.Registers.{Registers}
-use Rattle.caller.specs.declared.registers.Step.TheVariants as step
+use Rattle.caller.specs.Step as step
 use Rattle.caller.specs.declared.registers.Process.{Process}
 use Rattle.trace.specs.Cases.{AtDoor, DoorOpen, OnTrace}
 use Rattle.trace.specs.Frames.{TraceReply}

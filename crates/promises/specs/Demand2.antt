@@ -12,7 +12,7 @@ use Rattle.lookup.specs.Outcome.{Outcome}
 use Rattle.caller.specs.Cases.{CallerCase}
 use Rattle.caller.specs.InBytes.{CallerInBytes}
 use Rattle.caller.specs.declared.registers.Registers.{Registers}
-use Rattle.caller.specs.declared.registers.Step.TheVariants.{Caller}
+use Rattle.caller.specs.Step.{Caller}
 use Rattle.caller.specs.declared.registers.Process.{Process}
 use Rattle.trace.specs.Cases as trace
 use Rattle.trace.specs.Frames.{TraceReply, with_mark, traced_as, all_words, over}

@@ -7,7 +7,7 @@ use Rattle.numbers.specs.declared.offset.Offset.{Offset}
 use Rattle.lookup.specs.Outcome.{Answer}
 use Rattle.caller.specs.declared.registers.Process.{Process}
 use Rattle.caller.specs.declared.registers.Registers.{Registers}
-use Rattle.caller.specs.declared.registers.Step.{Step}
+use Rattle.caller.specs.Step.{Step}
 use Rattle.explain.specs.Answers.{outcome_why, step_why_answer}
 use Rattle.explain.specs.Why.{WhyLookup, WhyStep, SumIs}
 use Rattle.explain.specs.declared.sums.Sum.{Sum}

@@ -7,8 +7,8 @@ use Rattle.accept.specs.Verdict.{Verdict, Accepted, Refused}
 use Rattle.lookup.specs.Outcome.{Answer}
 use Rattle.lookup.specs.Outcome.{Found, NoFunction, Dispute}
 use Rattle.caller.specs.declared.registers.Registers.{Registers}
-use Rattle.caller.specs.declared.registers.Step.{Step}
-use Rattle.caller.specs.declared.registers.Step.TheVariants as step
+use Rattle.caller.specs.Step.{Step}
+use Rattle.caller.specs.Step as step
 use Rattle.caller.specs.declared.registers.Process.{Process}
 use Rattle.trace.specs.Frames.{TraceReply, traced_as}
 use Rattle.trace.specs.declared.answer.Ending.TheVariants as ending

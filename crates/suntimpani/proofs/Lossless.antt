@@ -43,8 +43,8 @@ use Rattle.caller.specs.Cases as steps
 use Rattle.caller.specs.Numbers.{number_of_step_cause, step_number, step_indexes, step_registers}
 use Rattle.caller.specs.Computed.Caller.{step_in}
 use Rattle.caller.specs.declared.registers.Registers.{Registers}
-use Rattle.caller.specs.declared.registers.Step.{Step}
-use Rattle.caller.specs.declared.registers.Step.TheVariants as step
+use Rattle.caller.specs.Step.{Step}
+use Rattle.caller.specs.Step as step
 use Rattle.caller.specs.declared.registers.Process.{Process}
 use Rattle.caller.proofs.Exactly.{step_exactly_when}
 use Rattle.caller.proofs.NumberLaws.{number_of_refusal_lem}

@@ -16,7 +16,7 @@ use Rattle.listing.specs.declared.function.Kind.TheVariants.{Plain, Repeated}
 use Rattle.lookup.specs.Numbers.{outcome_number, outcome_indexes, outcome_row}
 use Rattle.lookup.specs.Outcome.{Answer}
 use Rattle.caller.specs.Numbers.{step_number, step_indexes, step_registers}
-use Rattle.caller.specs.declared.registers.Step.{Step}
+use Rattle.caller.specs.Step.{Step}
 use Rattle.trace.specs.Frames.{TraceReply}
 use Rattle.trace.specs.Numbers.{ending_number, ending_indexes}
 use Rattle.trace.specs.declared.answer.Traced.{Traced}

@@ -15,8 +15,8 @@ use Rattle.listing.specs.declared.rows.RowTurn.{RowTurn}
 use Rattle.lookup.specs.Outcome.{Answer}
 use Rattle.lookup.specs.Outcome.{Outcome}
 use Rattle.lookup.specs.Outcome as outcome
-use Rattle.caller.specs.declared.registers.Step.{Step}
-use Rattle.caller.specs.declared.registers.Step.TheVariants as step
+use Rattle.caller.specs.Step.{Step}
+use Rattle.caller.specs.Step as step
 use Rattle.trace.specs.Frames.{TraceReply, traced_as}
 use Rattle.trace.specs.declared.answer.Ending.{Ending}
 use Rattle.trace.specs.declared.answer.Ending.TheVariants as ending

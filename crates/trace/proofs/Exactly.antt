@@ -23,7 +23,7 @@ use Rattle.caller.specs.Cases.{Rule41, OnRefusal, CallerCase}
 use Rattle.caller.specs.Frame.{cfa_of_sp}
 use Rattle.caller.specs.Numbers.{Refusal, number_of_refusal, number_of_step_cause}
 use Rattle.caller.specs.declared.registers.Registers.{Registers}
-use Rattle.caller.specs.declared.registers.Step.{Step}
+use Rattle.caller.specs.Step.{Step}
 use Rattle.caller.specs.declared.registers.Process.{Process}
 use Rattle.caller.proofs.Exactly.{cfa_of_caller}
 use Rattle.trace.specs.Cases.{LimitAbove, TooFewWords, AtDoor, DoorOpen, no_frame, Follows, EndsOutermost, EndsFull, EndsRefused, WalkMade, OnTrace, Case}

@@ -20,8 +20,8 @@ use Rattle.accept.specs.Computed.Checks.{first_bad, verdict}
 use Rattle.accept.specs.Fault.{Fault}
 use Rattle.caller.specs.Computed.Caller.{from_row}
 use Rattle.caller.specs.declared.registers.Registers.{Registers}
-use Rattle.caller.specs.declared.registers.Step.{Step}
-use Rattle.caller.specs.declared.registers.Step.TheVariants as stepped
+use Rattle.caller.specs.Step.{Step}
+use Rattle.caller.specs.Step as stepped
 use Rattle.caller.specs.declared.registers.Process.{Process}
 use Rattle.trace.specs.Cases.{no_frame, EndsOutermost, WalkMade}
 use Rattle.trace.specs.Frames.{TraceReply, in_force, frame_of, with_mark, all_words, over, traced_as}

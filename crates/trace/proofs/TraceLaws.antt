@@ -17,8 +17,8 @@ use Rattle.caller.specs.Cases.{WindowFits, OnRefusal, CallerCase}
 use Rattle.caller.specs.Numbers.{Refusal, number_of_refusal, number_of_step_cause, step_number}
 use Rattle.caller.specs.Computed.Caller.{step_of}
 use Rattle.caller.specs.declared.registers.Registers.{Registers}
-use Rattle.caller.specs.declared.registers.Step.{Step}
-use Rattle.caller.specs.declared.registers.Step.TheVariants as stepped
+use Rattle.caller.specs.Step.{Step}
+use Rattle.caller.specs.Step as stepped
 use Rattle.caller.specs.declared.registers.Process.{Process}
 use Rattle.caller.proofs.Exactly.{checked_caller, checked_refused, refused_checked}
 use Rattle.trace.specs.Cases.{AtDoor, DoorOpen, Follows, EndsRefused, Ends, WalkTo, StepRefuses, WalkMade, WalkEnded, OnTrace, Case}

@@ -8,8 +8,8 @@ use Rattle.lookup.specs.Outcome.{Outcome}
 use Rattle.lookup.specs.Outcome as outcome
 use Rattle.ask.specs.declared.answer.AskAnswer.{AskAnswer}
 use Rattle.ask.specs.declared.answer.AskAnswer.TheVariants as ask
-use Rattle.caller.specs.declared.registers.Step.{Step}
-use Rattle.caller.specs.declared.registers.Step.TheVariants as step
+use Rattle.caller.specs.Step.{Step}
+use Rattle.caller.specs.Step as step
 use Rattle.trace.specs.declared.answer.Ending.{Ending}
 use Rattle.trace.specs.declared.answer.Ending.TheVariants as ending
 use Rattle.suntimpani.specs.Read.{is_doors}
