@@ -34,6 +34,7 @@ use Rattle.caller.proofs.TheLinks.caller-registers-just_before as link-registers
 use Rattle.caller.proofs.TheLinks.caller-registers-asked_of as link-registers-asked_of
 use Rattle.caller.proofs.TheLinks.caller-registers-Registers-step_checked as link-registers-Registers-step_checked
 use Rattle.caller.proofs.TheLinks.caller-registers-Registers-step as link-registers-Registers-step
+use Rattle.caller.proofs.TheLinks.caller-registers-StepCause-number as link-registers-StepCause-number
 use Rattle.caller.proofs.TheLinks.caller-registers-cfa_of_sp as link-registers-cfa_of_sp
 
 -- the functions with their code, before more
@@ -62,6 +63,7 @@ entries more =
     ("caller::registers::asked_of", link-registers-asked_of.entry) ∷
     ("caller::registers::Registers::step_checked", link-registers-Registers-step_checked.entry) ∷
     ("caller::registers::Registers::step", link-registers-Registers-step.entry) ∷
+    ("caller::registers::StepCause::number", link-registers-StepCause-number.entry) ∷
     ("caller::registers::cfa_of_sp", link-registers-cfa_of_sp.entry) ∷
     more
 
@@ -90,6 +92,7 @@ pub record Finds (look : Symbol → Entry) : Type 0 where
   pub registers_asked_of : look "caller::registers::asked_of" ≡ link-registers-asked_of.entry
   pub registers_Registers_step_checked : look "caller::registers::Registers::step_checked" ≡ link-registers-Registers-step_checked.entry
   pub registers_Registers_step : look "caller::registers::Registers::step" ≡ link-registers-Registers-step.entry
+  pub registers_StepCause_number : look "caller::registers::StepCause::number" ≡ link-registers-StepCause-number.entry
   pub registers_cfa_of_sp : look "caller::registers::cfa_of_sp" ≡ link-registers-cfa_of_sp.entry
 
 module _ (look : Symbol → Entry) (in_numbers : numbers.Finds look) (in_section : section.Finds look) (in_accept : accept.Finds look) (in_lookup : lookup.Finds look) (here : Finds look) where
@@ -161,6 +164,9 @@ module _ (look : Symbol → Entry) (in_numbers : numbers.Finds look) (in_section
 
   pub registers_Registers_step : HasT look false link-registers-Registers-step.code
   registers_Registers_step = link-registers-Registers-step.has look false here.registers_Registers_step (accept.section_check_check look in_numbers in_section in_accept) registers_Registers_refuse registers_Registers_step_checked (numbers.address_window_fits look in_numbers) (section.header_layout_at look in_numbers in_section)
+
+  pub registers_StepCause_number : HasT look false link-registers-StepCause-number.code
+  registers_StepCause_number = link-registers-StepCause-number.has look false here.registers_StepCause_number (accept.verdict_Rule_number look in_numbers in_section in_accept)
 
   pub registers_cfa_of_sp : HasT look false link-registers-cfa_of_sp.code
   registers_cfa_of_sp = link-registers-cfa_of_sp.has look false here.registers_cfa_of_sp

@@ -5,8 +5,8 @@ use Prim.Native.Nat.{ℕ}
 use Rattle.std.proofs.Common.{Result, Ok, Err}
 use Rattle.accept.specs.declared.verdict.Rule.{Rule}
 use Rattle.accept.proofs.Exactly.{by_number}
-use Rattle.caller.specs.Numbers.{step_registers}
-use Rattle.caller.specs.Told.{refusal_told, step_told}
+use Rattle.caller.specs.Numbers.{step_registers, step_number}
+use Rattle.caller.specs.Told.{cause_number, refusal_told, step_told}
 use Rattle.caller.specs.declared.registers.Registers.{Registers}
 use Rattle.caller.specs.declared.registers.StepCause.{StepCause}
 use Rattle.caller.specs.declared.registers.StepCause.TheVariants.{Window, Unsound, NoFunction, Dispute, NoRow, Signed, CfaOutside, CfaLow, RaLost, WordOutside}
@@ -47,7 +47,7 @@ told_old old WordOutside = refl
 abbrev refused : Registers → StepCause → Result Registers StepRefusal
 refused old cause = Err (record { old = old; cause = cause })
 
-apart : (registers old : Registers) (cause : StepCause) → ¬ (step_told (Ok registers) ≡ refusal_told old cause)
+pub apart : (registers old : Registers) (cause : StepCause) → ¬ (step_told (Ok registers) ≡ refusal_told old cause)
 apart registers old Window e = cc
 apart registers old (Unsound refusal) e = cc
 apart registers old NoFunction e = cc
@@ -58,6 +58,20 @@ apart registers old CfaOutside e = cc
 apart registers old CfaLow e = cc
 apart registers old RaLost e = cc
 apart registers old WordOutside e = cc
+
+-- the number of a refused step
+pub told_number : (old : Registers) (cause : StepCause) → cause_number cause ≡ step_number (refusal_told old cause)
+unfolding step_number
+told_number old Window = refl
+told_number old (Unsound refusal) = refl
+told_number old NoFunction = refl
+told_number old Dispute = refl
+told_number old NoRow = refl
+told_number old Signed = refl
+told_number old CfaOutside = refl
+told_number old CfaLow = refl
+told_number old RaLost = refl
+told_number old WordOutside = refl
 
 pub step_told_once : (a b : Result Registers StepRefusal) → step_told a ≡ step_told b → a ≡ b
 step_told_once (Ok a) (Ok b) e = let same : a ≡ b = cc in ap Ok same

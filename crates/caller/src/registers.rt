@@ -3,6 +3,7 @@ ghost use Rattle.std.specs.Prelude.{◌≡◌};
 ghost use Rattle.numbers.specs.Computed.Address.{in_memory};
 ghost use Rattle.caller.specs.Frame.{just_before, asked_of, base_value, cfa_of, caller_sp, cfa_of_sp};
 ghost use Rattle.caller.specs.Computed.Caller.{is_low};
+ghost use Rattle.caller.specs.Told.{cause_number};
 
 use accept::verdict::Refusal;
 use numbers::address::address_of;
@@ -52,6 +53,27 @@ pub enum StepCause {
     RaLost,
     // 28: a word that is needed is not wholly inside the stack window.
     WordOutside,
+}
+
+impl StepCause {
+    // The number that a step is refused with.
+    #[tactic(auto, unfolding(accept::specs::Given::number_of_rule))]
+    pub fn number(self) -> u64
+        ensures { result ≡ cause_number self }
+    {
+        match self {
+            StepCause::Window => 41,
+            StepCause::Unsound(refusal) => refusal.rule.number(),
+            StepCause::NoFunction => 21,
+            StepCause::Dispute => 22,
+            StepCause::NoRow => 23,
+            StepCause::Signed => 24,
+            StepCause::CfaOutside => 25,
+            StepCause::CfaLow => 26,
+            StepCause::RaLost => 27,
+            StepCause::WordOutside => 28,
+        }
+    }
 }
 
 // A refused step hands the old registers back. They stand first, so that they are not moved about.

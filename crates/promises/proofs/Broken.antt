@@ -33,7 +33,7 @@ use Rattle.trace.specs.Frames.{all_words, over, words_of, traced_as}
 use Rattle.trace.specs.Numbers.{window, number_of_trace_cause, ending_number}
 use Rattle.trace.specs.Computed.Trace.{traced, trace_of}
 use Rattle.trace.specs.Inner.Opened.{trace_opened}
-use Rattle.trace.specs.declared.answer.Ending.TheVariants.{Outermost, Unsound}
+use Rattle.trace.specs.Ending.{Outermost, Unsound}
 use Rattle.trace.specs.declared.answer.Frame.{Frame}
 use Rattle.trace.proofs.Exactly.{unsound_exactly_when}
 use Rattle.promises.specs.Calls.{Calls}

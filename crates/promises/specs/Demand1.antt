@@ -18,7 +18,7 @@ use Rattle.caller.specs.declared.registers.Process.{Process}
 use Rattle.trace.specs.Cases.{AtDoor, DoorOpen, OnTrace}
 use Rattle.trace.specs.Frames.{TraceReply}
 use Rattle.trace.specs.Numbers.{TraceCause, number_of_trace_cause, ending_number, ending_indexes}
-use Rattle.trace.specs.declared.answer.Ending.TheVariants as ending
+use Rattle.trace.specs.Ending as ending
 use Rattle.promises.specs.Calls.{Calls}
 
 -- a number is that of a cause

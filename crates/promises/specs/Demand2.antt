@@ -16,7 +16,7 @@ use Rattle.caller.specs.Step.{Caller}
 use Rattle.caller.specs.declared.registers.Process.{Process}
 use Rattle.trace.specs.Cases as trace
 use Rattle.trace.specs.Frames.{TraceReply, with_mark, traced_as, all_words, over}
-use Rattle.trace.specs.declared.answer.Ending.{Ending}
+use Rattle.trace.specs.Ending.{Ending}
 use Rattle.trace.specs.declared.answer.Frame.{Frame}
 use Rattle.promises.specs.Calls.{Calls}
 

@@ -15,7 +15,7 @@ use Rattle.caller.specs.declared.registers.Registers.{Registers}
 use Rattle.caller.specs.Step.{Caller}
 use Rattle.trace.specs.Cases.{DoorOpen, Follows}
 use Rattle.trace.specs.Frames.{in_force, with_mark}
-use Rattle.trace.specs.declared.answer.Ending.TheVariants.{Outermost}
+use Rattle.trace.specs.Ending.{Outermost}
 use Rattle.trace.specs.declared.answer.Frame.{Frame}
 use Rattle.promises.specs.Calls.{Calls}
 use Rattle.promises.specs.StatedContracts.{Keeps}

@@ -11,7 +11,7 @@ use Rattle.caller.specs.Step.{Step}
 use Rattle.caller.specs.Step as step
 use Rattle.caller.specs.declared.registers.Process.{Process}
 use Rattle.trace.specs.Frames.{TraceReply, traced_as}
-use Rattle.trace.specs.declared.answer.Ending.TheVariants as ending
+use Rattle.trace.specs.Ending as ending
 use Rattle.promises.specs.Calls.{Calls}
 
 -- ---- a row: a section, what is asked of it, and the reply

@@ -52,10 +52,10 @@ use Rattle.trace.specs.Cases as traces
 use Rattle.trace.specs.Frames.{TraceReply, traced_as}
 use Rattle.trace.specs.Numbers.{number_of_trace_cause, ending_number, ending_indexes}
 use Rattle.trace.specs.Computed.Trace.{walk_in, trace_of, traced}
-use Rattle.trace.specs.declared.answer.Ending.{Ending}
-use Rattle.trace.specs.declared.answer.Ending.TheVariants as ending
+use Rattle.trace.specs.Ending.{Ending}
+use Rattle.trace.specs.Ending as ending
 use Rattle.trace.specs.declared.answer.Frame.{Frame}
-use Rattle.trace.specs.declared.answer.Traced.{Traced}
+use Rattle.trace.specs.Ending.{Traced}
 use Rattle.trace.proofs.Exactly.{some_case}
 use Rattle.suntimpani.specs.Flat.{flat_verdict, kind_number, repeat_of, no_function, flat_facts, flat_function, base_number, place_kind, place_offset, flag, flat_row, flat_answer, flat_step, flat_traced, handed_as, flat_trace}
 use Rattle.suntimpani.specs.FlatRows.{abi_number, flat_place, flat_next, flat_yield, flat_turn}

@@ -19,7 +19,7 @@ use Rattle.caller.specs.Numbers.{step_number, step_indexes, step_registers}
 use Rattle.caller.specs.Step.{Step}
 use Rattle.trace.specs.Frames.{TraceReply}
 use Rattle.trace.specs.Numbers.{ending_number, ending_indexes}
-use Rattle.trace.specs.declared.answer.Traced.{Traced}
+use Rattle.trace.specs.Ending.{Traced}
 use Rattle.suntimpani.specs.declared.flat.AnswerInC.{AnswerInC}
 use Rattle.suntimpani.specs.declared.flat.VerdictInC.{VerdictInC}
 use Rattle.suntimpani.specs.declared.functions.FunctionInC.{FunctionInC}

@@ -18,9 +18,9 @@ use Rattle.lookup.specs.Outcome as outcome
 use Rattle.caller.specs.Step.{Step}
 use Rattle.caller.specs.Step as step
 use Rattle.trace.specs.Frames.{TraceReply, traced_as}
-use Rattle.trace.specs.declared.answer.Ending.{Ending}
-use Rattle.trace.specs.declared.answer.Ending.TheVariants as ending
-use Rattle.trace.specs.declared.answer.Traced.{Traced}
+use Rattle.trace.specs.Ending.{Ending}
+use Rattle.trace.specs.Ending as ending
+use Rattle.trace.specs.Ending.{Traced}
 use Rattle.suntimpani.specs.Flat.{Handed}
 use Rattle.suntimpani.specs.Shown.{ShownFunction, Shown, unsound, unknown, known}
 use Rattle.suntimpani.specs.declared.flat.AnswerInC.{AnswerInC}

@@ -16,8 +16,8 @@ use Rattle.caller.specs.Step as stepped
 use Rattle.trace.specs.Cases.{no_frame, Follows, NotOutermost, Ends, WalkTo, WalkCase}
 use Rattle.trace.specs.Frames.{frame_of}
 use Rattle.trace.specs.Computed.Trace.{Walk, ended, with_frame, walk_of}
-use Rattle.trace.specs.declared.answer.Ending.{Ending}
-use Rattle.trace.specs.declared.answer.Ending.TheVariants.{Outermost, Full, Refused, Shut, Unsound}
+use Rattle.trace.specs.Ending.{Ending}
+use Rattle.trace.specs.Ending.{Outermost, Full, Refused, Shut, Unsound}
 use Rattle.trace.specs.declared.answer.Frame.{Frame}
 use Rattle.trace.proofs.WalkLaws.{walk_full, walk_no_caller, walk_outermost, walk_on}
 

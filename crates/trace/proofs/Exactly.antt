@@ -30,8 +30,8 @@ use Rattle.trace.specs.Cases.{LimitAbove, TooFewWords, AtDoor, DoorOpen, no_fram
 use Rattle.trace.specs.Frames.{TraceReply, in_force, frame_of, with_mark, all_words, over, traced_as}
 use Rattle.trace.specs.Numbers.{TraceCause, window, limit_above, too_few_words, unsound, refused, outermost, full, number_of_trace_cause, ending_number, ending_indexes}
 use Rattle.trace.specs.Computed.Trace.{Walk, walk_of, checked_walk, door_tests, door_fault, walk_after, walk_in, traced, trace_of}
-use Rattle.trace.specs.declared.answer.Ending.{Ending}
-use Rattle.trace.specs.declared.answer.Ending.TheVariants.{Outermost, Full, Refused, Shut, Unsound}
+use Rattle.trace.specs.Ending.{Ending}
+use Rattle.trace.specs.Ending.{Outermost, Full, Refused, Shut, Unsound}
 use Rattle.trace.specs.declared.answer.Frame.{Frame}
 use Rattle.trace.proofs.BufferLaws.{over_length, over_first, over_after, over_kept, all_length, all_at}
 use Rattle.trace.proofs.DoorLaws.{in_force_small, in_force_above, not_open}

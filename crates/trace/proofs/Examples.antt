@@ -28,7 +28,7 @@ use Rattle.trace.specs.Frames.{TraceReply, in_force, frame_of, with_mark, all_wo
 use Rattle.trace.specs.Numbers.{number_of_trace_cause, ending_number}
 use Rattle.trace.specs.Computed.Trace.{Walk, ended, with_frame, unless_outermost, onward, walk_of, door_fault, after_door, walk_after, traced, trace_of}
 use Rattle.trace.specs.Inner.Opened.{trace_opened}
-use Rattle.trace.specs.declared.answer.Ending.TheVariants.{Outermost, Full, Refused, Shut, Unsound}
+use Rattle.trace.specs.Ending.{Outermost, Full, Refused, Shut, Unsound}
 use Rattle.trace.specs.declared.answer.Frame.{Frame}
 use Rattle.trace.proofs.Exactly.{number_30_exactly_when}
 use Rattle.trace.proofs.TraceLaws.{step_at}

@@ -25,8 +25,8 @@ use Rattle.trace.specs.Cases.{AtDoor, DoorOpen, Follows, EndsRefused, Ends, Walk
 use Rattle.trace.specs.Frames.{in_force, with_mark}
 use Rattle.trace.specs.Numbers.{TraceCause, window, limit_above, too_few_words, unsound, refused, outermost, full, number_of_trace_cause, ending_number}
 use Rattle.trace.specs.Computed.Trace.{Walk, ended, walk_of, checked_walk, walk_in}
-use Rattle.trace.specs.declared.answer.Ending.{Ending}
-use Rattle.trace.specs.declared.answer.Ending.TheVariants.{Outermost, Full, Refused, Shut, Unsound}
+use Rattle.trace.specs.Ending.{Ending}
+use Rattle.trace.specs.Ending.{Outermost, Full, Refused, Shut, Unsound}
 use Rattle.trace.specs.declared.answer.Frame.{Frame}
 use Rattle.trace.proofs.CaseLaws.{Yielding, Refusing, none_follows, case_within, walk_case, case_walk, walk_through, ends_through}
 use Rattle.trace.proofs.DoorLaws.{shut_walk, unsound_walk, open_walk, Way, shut, unsound_way, sound, way}

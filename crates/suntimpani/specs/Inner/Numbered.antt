@@ -10,8 +10,8 @@ use Rattle.ask.specs.declared.answer.AskAnswer.{AskAnswer}
 use Rattle.ask.specs.declared.answer.AskAnswer.TheVariants as ask
 use Rattle.caller.specs.Step.{Step}
 use Rattle.caller.specs.Step as step
-use Rattle.trace.specs.declared.answer.Ending.{Ending}
-use Rattle.trace.specs.declared.answer.Ending.TheVariants as ending
+use Rattle.trace.specs.Ending.{Ending}
+use Rattle.trace.specs.Ending as ending
 use Rattle.suntimpani.specs.Read.{is_doors}
 
 -- "1 to 15"
