@@ -5,7 +5,7 @@ ghost use Rattle.suntimpani.specs.FlatRows.{abi_number, flat_place, flat_next, f
 ghost use Rattle.suntimpani.specs.Read.{read_rows};
 
 use crate::flat::{base_number, empty_row, flag_of, place_kind, place_offset};
-use listing::rows::{NextRow, RowPlace, RowTurn};
+use listing::rows::{RowPlace, RowTurn};
 use section::row::Row;
 use section::shape::Abi;
 
@@ -60,9 +60,8 @@ fn abi_named(number: u64) -> Abi
 pub fn flat_place(place: RowPlace) -> RowsInC
     ensures { result ≡ flat_place place }
 {
-    let abi = place.abi;
     RowsInC {
-        abi: abi_number(abi),
+        abi: abi_number(place.abi),
         code: place.code as u64,
         at: place.at as u64,
         left: place.left,
@@ -84,21 +83,15 @@ pub fn place_read(rows: RowsInC) -> RowPlace
 fn flat_next(more: u64, row: Row, place: RowPlace) -> RowInC
     ensures { result ≡ flat_next more row place }
 {
-    let base = row.base;
-    let cfa = row.cfa;
-    let savedra = row.ra;
-    let savedfp = row.fp;
-    let ra = place_offset(savedra);
-    let fp = place_offset(savedfp);
     RowInC {
-        more: more,
+        more,
         start: row.start as u64,
-        base: base_number(base),
-        cfa: cfa.by,
-        raplace: place_kind(savedra),
-        ra: ra.by,
-        fpplace: place_kind(savedfp),
-        fp: fp.by,
+        base: base_number(row.base),
+        cfa: row.cfa.by,
+        raplace: place_kind(row.ra),
+        ra: place_offset(row.ra).by,
+        fpplace: place_kind(row.fp),
+        fp: place_offset(row.fp).by,
         signedra: flag_of(row.signed),
         rest: flat_place(place),
     }
@@ -107,9 +100,8 @@ fn flat_next(more: u64, row: Row, place: RowPlace) -> RowInC
 pub fn flat_turn(turn: RowTurn) -> RowInC
     ensures { result ≡ flat_turn turn }
 {
-    let next = turn.next;
-    match next {
-        NextRow::One(row) => flat_next(1, row, turn.place),
-        NextRow::NoMore => flat_next(0, empty_row(), turn.place),
+    match turn.next {
+        Some(row) => flat_next(1, row, turn.place),
+        None => flat_next(0, empty_row(), turn.place),
     }
 }

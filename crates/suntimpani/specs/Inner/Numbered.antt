@@ -2,8 +2,6 @@
 use Rattle.std.specs.Prelude.{ℕ, ◌≤◌, ◌≡◌, false, ◌⊎◌}
 use Rattle.accept.specs.Verdict.{Verdict}
 use Rattle.accept.specs.Verdict as verdict
-use Rattle.listing.specs.declared.function.Described.{Described}
-use Rattle.listing.specs.declared.function.Described.TheVariants as described
 use Rattle.lookup.specs.declared.answer.Outcome.{Outcome}
 use Rattle.lookup.specs.declared.answer.Outcome.TheVariants as outcome
 use Rattle.ask.specs.declared.answer.AskAnswer.{AskAnswer}
@@ -13,6 +11,8 @@ use Rattle.caller.specs.declared.registers.Step.TheVariants as step
 use Rattle.trace.specs.declared.answer.Ending.{Ending}
 use Rattle.trace.specs.declared.answer.Ending.TheVariants as ending
 use Rattle.suntimpani.specs.Read.{is_doors}
+use Rattle.listing.specs.Described.{Described}
+use Rattle.listing.specs.Described as described
 
 -- "1 to 15"
 abbrev pub OfSection : ℕ → Type 0
