@@ -19,6 +19,7 @@ pub struct FunctionInC {
     pub repeat: u64,
 }
 
+#[tactic(auto, unfolding(crate::specs::Flat::kind_number))]
 fn kind_number(kind: Kind) -> u64
     ensures { result ≡ kind_number kind }
 {
@@ -28,6 +29,7 @@ fn kind_number(kind: Kind) -> u64
     }
 }
 
+#[tactic(auto, unfolding(crate::specs::Flat::repeat_of))]
 fn repeat_of(kind: Kind) -> u64
     ensures { result ≡ repeat_of kind }
 {
@@ -37,6 +39,7 @@ fn repeat_of(kind: Kind) -> u64
     }
 }
 
+#[tactic(auto, unfolding(crate::specs::Flat::no_function))]
 fn no_function(number: u64) -> FunctionInC
     ensures { result ≡ no_function number }
 {
@@ -51,6 +54,7 @@ fn no_function(number: u64) -> FunctionInC
     }
 }
 
+#[tactic(auto, unfolding(crate::specs::Flat::flat_facts))]
 fn flat_facts(facts: Facts) -> FunctionInC
     ensures { result ≡ flat_facts facts }
 {
@@ -65,6 +69,7 @@ fn flat_facts(facts: Facts) -> FunctionInC
     }
 }
 
+#[tactic(auto, unfolding(crate::specs::Flat::flat_function))]
 pub fn flat_function(described: Result<Facts, Undescribed>) -> FunctionInC
     ensures { result ≡ flat_function (described_told described) }
 {

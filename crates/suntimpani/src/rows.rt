@@ -36,6 +36,7 @@ pub struct RowInC {
     pub rest: RowsInC,
 }
 
+#[tactic(auto, unfolding(crate::specs::FlatRows::abi_number))]
 fn abi_number(abi: Abi) -> u64
     ensures { result ≡ abi_number abi }
 {
@@ -47,6 +48,7 @@ fn abi_number(abi: Abi) -> u64
 }
 
 // Any number names an ABI, since any may be handed in: a place that was handed out has one of the three.
+#[tactic(auto, unfolding(section::specs::Shape::abi_of))]
 fn abi_named(number: u64) -> Abi
     ensures { result ≡ abi_of number }
 {
@@ -57,6 +59,7 @@ fn abi_named(number: u64) -> Abi
     }
 }
 
+#[tactic(auto, unfolding(crate::specs::FlatRows::flat_place))]
 pub fn flat_place(place: RowPlace) -> RowsInC
     ensures { result ≡ flat_place place }
 {
@@ -69,6 +72,7 @@ pub fn flat_place(place: RowPlace) -> RowsInC
 }
 
 // The place that is handed in, whatever its numbers.
+#[tactic(auto, unfolding(crate::specs::Read::read_rows))]
 pub fn place_read(rows: RowsInC) -> RowPlace
     ensures { result ≡ read_rows rows }
 {
@@ -80,6 +84,7 @@ pub fn place_read(rows: RowsInC) -> RowPlace
     }
 }
 
+#[tactic(auto, unfolding(crate::specs::FlatRows::flat_next))]
 fn flat_next(more: u64, row: Row, place: RowPlace) -> RowInC
     ensures { result ≡ flat_next more row place }
 {
@@ -97,6 +102,7 @@ fn flat_next(more: u64, row: Row, place: RowPlace) -> RowInC
     }
 }
 
+#[tactic(auto, unfolding(crate::specs::FlatRows::flat_turn, crate::specs::FlatRows::flat_yield))]
 pub fn flat_turn(turn: RowTurn) -> RowInC
     ensures { result ≡ flat_turn turn }
 {
