@@ -17,8 +17,8 @@ use Rattle.lookup.specs.Computed.Rows.{row_for}
 use Rattle.ask.specs.Numbers.{ask_number}
 use Rattle.ask.specs.Computed.Ask.{with_row, checked_row, in_function, ask_of}
 use Rattle.ask.specs.Inner.Opened.{ask_opened}
-use Rattle.ask.specs.declared.answer.AskAnswer.{AskAnswer}
-use Rattle.ask.specs.declared.answer.AskAnswer.TheVariants.{Found, Unsound, Unsorted, NoFunction, NoRow, Damaged}
+use Rattle.ask.specs.AskAnswer.{AskAnswer}
+use Rattle.ask.specs.AskAnswer.{Found, Unsound, Unsorted, NoFunction, NoRow, Damaged}
 
 -- ---- "Loaded at 0x400000": in S, which is accepted and sorted, as a lookup
 

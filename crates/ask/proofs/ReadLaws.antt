@@ -28,7 +28,7 @@ use Rattle.ask.specs.Cases.{CanBeAsked}
 use Rattle.ask.specs.Compared.{entries_compared}
 use Rattle.ask.specs.ReadBy.{Compared, ReadAt, of_header, of_entry, of_row, ReadBy, InLandedRows, AtMostBesideRows}
 use Rattle.ask.specs.Computed.Ask.{ask_of}
-use Rattle.ask.specs.declared.answer.AskAnswer.TheVariants.{NoFunction}
+use Rattle.ask.specs.AskAnswer.{NoFunction}
 use Rattle.ask.proofs.ComparedLaws.{as_many_compared, compared_within}
 use Rattle.ask.proofs.Exactly.{no_function_means}
 

@@ -8,5 +8,6 @@ pub mod PlaceLaws
 pub mod ReadBack
 pub mod RowMeaning
 pub mod RowsLeft
+pub mod ToldLaws
 pub mod TurnLaws
 pub mod WholeLaws

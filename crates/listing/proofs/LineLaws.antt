@@ -1,36 +1,25 @@
--- One turn of a listing: by what the turn of its rows yields, and what its tests tell of an entry.
+-- What the tests of a turn of a listing tell: an accepted section has a whole header, and an entry that passed its test is there.
 -- Assumes nothing.
-use mathlib.Core.Path.{◌≡◌, sym, ap, ◌∙◌}
+use mathlib.Core.Path.{◌≡◌}
 use mathlib.Core.Bool.{true}
 use mathlib.Core.List.{List}
 use Prim.Native.Nat.{ℕ, ◌≤◌}
 use native.Mathlib.Omega.{arith}
 use lib.ListN.{length}
 use borrow.Author.Tests.{leb-true, ltb-true}
-use Rattle.std.specs.Prelude.{Some, None}
 use Rattle.section.specs.Header.{layout_of}
 use Rattle.section.specs.declared.header.Layout.{Layout}
-use Rattle.section.specs.declared.row.Row.{Row}
-use Rattle.listing.specs.Computed.Lines.{has_entry, function_turn, line_by, line_turn}
-use Rattle.listing.specs.Computed.Turns.{row_turn}
+use Rattle.accept.specs.Computed.Checks.{verdict}
+use Rattle.accept.specs.Verdict.{Accepted}
+use Rattle.accept.proofs.Exactly.{accepted_exactly_when}
+use Rattle.listing.specs.Computed.Lines.{has_entry}
 use Rattle.listing.specs.Inner.Requires.{EntryThere}
-use Rattle.listing.specs.declared.lines.Cursor.{Cursor}
-use Rattle.listing.specs.declared.lines.Line.TheVariants.{OfRow}
-use Rattle.listing.specs.declared.lines.LineTurn.{LineTurn}
-use Rattle.listing.specs.declared.rows.RowTurn.{RowTurn}
 use Rattle.listing.proofs.TurnLaws.{both_true}
 
-pub no_row : (s : List ℕ) (cursor : Cursor) (turn : RowTurn) → turn ≡ row_turn s cursor.rows → turn.next ≡ None
-    → function_turn s cursor ≡ line_turn s cursor
-unfolding line_turn line_by
-no_row s cursor turn is none = rw (sym (ap (λ t. t.next) is) ∙ none)
+-- ---- an accepted section has a whole header
 
-pub one_row : (s : List ℕ) (cursor : Cursor) (turn : RowTurn) (decoded : Row) → turn ≡ row_turn s cursor.rows → turn.next ≡ Some decoded
-    → ◌≡◌ {A = LineTurn}
-    (record { next = Some (OfRow decoded); cursor = record { index = cursor.index; left = cursor.left; rows = turn.place } })
-    (line_turn s cursor)
-unfolding line_turn line_by
-one_row s cursor turn decoded is one = rw (sym (ap (λ t. t.next) is) ∙ one, ap (λ t. t.place) is)
+pub accepted_long : (s : List ℕ) → verdict s ≡ Accepted → 28 ≤ length s
+accepted_long s accepted = ((accepted_exactly_when s).0 accepted).header.rule1
 
 -- ---- an entry that passed its test is there
 

@@ -5,8 +5,7 @@ use Rattle.section.specs.Header.{layout_of}
 use Rattle.section.specs.Meaning.{Block, plain, repeated, entry_in, block_of, function_start}
 use Rattle.accept.specs.Computed.Checks.{header_fault}
 use Rattle.accept.specs.Fault.{Fault, Sound, Breaks}
-use Rattle.listing.specs.declared.function.Described.{Described}
-use Rattle.listing.specs.declared.function.Described.TheVariants.{Unsound, Unknown, Function}
+use Rattle.listing.specs.Described.{Described, Unsound, Unknown, Function}
 use Rattle.listing.specs.declared.function.Facts.{Facts}
 use Rattle.listing.specs.declared.function.Kind.{Kind}
 use Rattle.listing.specs.declared.function.Kind.TheVariants.{Plain, Repeated}

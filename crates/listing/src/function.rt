@@ -5,11 +5,12 @@ ghost use Rattle.section.specs.Meaning.{block_of};
 ghost use Rattle.accept.specs.Computed.Checks.{header_fault};
 ghost use Rattle.accept.specs.Fault.{Sound};
 ghost use Rattle.listing.specs.Functions.{kind_of, facts_of, described_in, described_of};
+ghost use Rattle.listing.specs.Told.{described_told};
 ghost use Rattle.listing.specs.Inner.Requires.{EntryThere};
 
 use crate::rows::RowPlace;
 use accept::header_check::check_header;
-use accept::verdict::Fault;
+use accept::verdict::Rule;
 use numbers::offset::Offset;
 use section::entry::{Entry, does_repeat, entry_at, exact_start, type_of};
 use section::header::{Layout, layout_at, order_at};
@@ -30,36 +31,37 @@ pub struct Facts {
     pub rows: RowPlace,
 }
 
-// What is said of an index: the number of a broken rule of the header, that there is no such function, or the function.
+// Why nothing is said of an index: the header breaks a rule, or there is no such function.
 #[derive(Clone, Copy)]
-pub enum Described {
-    Unsound(u64),
+pub enum Undescribed {
+    Unsound(Rule),
     Unknown,
-    Function(Facts),
 }
 
+#[tactic(auto, unfolding(section::specs::Meaning::block_of, crate::specs::Functions::kind_of))]
 fn kind_of(entry: Entry) -> Kind
     ensures { result ≡ kind_of (block_of entry) }
 {
     if does_repeat(entry.info) {
-        return Kind::Repeated(entry.repeat);
+        Kind::Repeated(entry.repeat)
+    } else {
+        Kind::Plain
     }
-    Kind::Plain
 }
 
 // Function i, whose entry lies in the section.
+#[tactic(auto, unfolding(section::specs::Meaning::entry_in, crate::specs::Functions::facts_of, crate::specs::Functions::rows_place))]
 pub fn facts_at(section: &[u8], layout: Layout, i: u64) -> Facts
     requires { EntryThere section.now layout i }
     ensures { result ≡ facts_of section.now i }
 {
     let entry = entry_at(section, order_at(section), (layout.table + 20 * i) as u32);
-    let abi = layout.abi;
     Facts {
         start: exact_start(layout.relative, entry),
         size: entry.size,
         kind: kind_of(entry),
         rows: RowPlace {
-            abi: abi,
+            abi: layout.abi,
             code: type_of(entry.info),
             at: layout.area as usize + entry.first as usize,
             left: entry.rows as u64,
@@ -67,22 +69,24 @@ pub fn facts_at(section: &[u8], layout: Layout, i: u64) -> Facts
     }
 }
 
-fn described_in(section: &[u8], layout: Layout, index: u64) -> Described
+#[tactic(auto, unfolding(crate::specs::Functions::described_in))]
+fn described_in(section: &[u8], layout: Layout, index: u64) -> Result<Facts, Undescribed>
     requires { (header_fault section.now ≡ Sound) × (layout ≡ layout_of section.now) }
-    ensures { result ≡ described_in section.now index }
+    ensures { described_told result ≡ described_in section.now index }
 {
     if index < layout.functions as u64 {
-        return Described::Function(facts_at(section, layout, index));
+        return Ok(facts_at(section, layout, index));
     }
-    Described::Unknown
+    Err(Undescribed::Unknown)
 }
 
 // The function with an index, on any bytes.
-pub fn function_at(section: &[u8], index: u64) -> Described
-    ensures { result ≡ described_of section.now index }
+#[tactic(auto, using(crate::proofs::FunctionLaws::header_long), unfolding(crate::specs::Functions::described_of, crate::specs::Functions::described_by))]
+pub fn function_at(section: &[u8], index: u64) -> Result<Facts, Undescribed>
+    ensures { described_told result ≡ described_of section.now index }
 {
     match check_header(section) {
-        Fault::Breaks(number) => Described::Unsound(number),
-        Fault::Sound => described_in(section, layout_at(section), index),
+        Ok(()) => described_in(section, layout_at(section), index),
+        Err(rule) => Err(Undescribed::Unsound(rule)),
     }
 }

@@ -4,9 +4,8 @@ ghost use Rattle.std.specs.Prelude.{◌≡◌, ◌≤◌, ◌<◌, ◌^◌, leng
 ghost use Rattle.listing.specs.Computed.Lines.{line_at, stopped, cursor_over, has_entry, entry_turn, function_turn, line_turn, cursor_of, cursor_at};
 
 use crate::function::{Facts, Kind, facts_at};
-use crate::rows::{NextRow, RowPlace, ended_at, nowhere, row_turn};
+use crate::rows::{RowPlace, ended_at, nowhere, row_turn};
 use accept::section_check::check;
-use accept::verdict::Verdict;
 use numbers::offset::Offset;
 use section::header::{Layout, layout_at};
 use section::row::Row;
@@ -26,13 +25,6 @@ pub enum Line {
     OfRow(Row),
 }
 
-// What a turn yields.
-#[derive(Clone, Copy)]
-pub enum NextLine {
-    One(Line),
-    NoMore,
-}
-
 // Where a listing stands: the rows that are left of the function before, then so many functions from an index on.
 #[derive(Clone, Copy)]
 pub struct Cursor {
@@ -41,76 +33,71 @@ pub struct Cursor {
     pub rows: RowPlace,
 }
 
-// A turn: what it yields, and where the listing then stands.
+// A turn: the line that it yields, if there is one more, and where the listing then stands.
 #[derive(Clone, Copy)]
 pub struct LineTurn {
-    pub next: NextLine,
+    pub next: Option<Line>,
     pub cursor: Cursor,
 }
 
 // So many functions from an index on, none of whose lines has been yielded.
+#[tactic(auto, unfolding(crate::specs::Computed::Lines::cursor_over))]
 pub fn cursor_over(index: u64, left: u32) -> Cursor
     ensures { result ≡ cursor_over index left }
 {
     Cursor {
-        index: index,
-        left: left,
+        index,
+        left,
         rows: nowhere(),
     }
 }
 
 // There are no more lines, for ever.
+#[tactic(auto, unfolding(crate::specs::Computed::Lines::stopped))]
 fn stopped_at(cursor: Cursor) -> LineTurn
     ensures { result ≡ stopped cursor }
 {
-    let rows = cursor.rows;
     LineTurn {
-        next: NextLine::NoMore,
+        next: None,
         cursor: Cursor {
-            index: cursor.index,
             left: 0,
-            rows: ended_at(rows),
+            rows: ended_at(cursor.rows),
+            ..cursor
         },
     }
 }
 
 // The line of a function, and its rows before the next one.
+#[tactic(auto, unfolding(crate::specs::Computed::Lines::line_at, crate::specs::Computed::Lines::function_line))]
 fn line_at(cursor: Cursor, facts: Facts) -> LineTurn
     requires { (0 < cursor.left) × (cursor.index < 2 ^ 32) }
     ensures { result ≡ line_at cursor facts }
 {
-    let start = facts.start;
-    let kind = facts.kind;
-    let rows = facts.rows;
     LineTurn {
-        next: NextLine::One(Line::OfFunction(FunctionLine {
+        next: Some(Line::OfFunction(FunctionLine {
             index: cursor.index,
-            start: start,
+            start: facts.start,
             size: facts.size,
-            kind: kind,
+            kind: facts.kind,
         })),
         cursor: Cursor {
             index: cursor.index + 1,
             left: cursor.left - 1,
-            rows: rows,
+            rows: facts.rows,
         },
     }
 }
 
 // Whether an entry with this index lies in a section of so many bytes. Its place is then below 2^32.
+#[tactic(auto, unfolding(crate::specs::Computed::Lines::has_entry))]
 fn has_entry(layout: Layout, length: usize, i: u64) -> bool
     ensures { result ≡ has_entry layout length i }
 {
-    if (length as u64) < layout.area {
-        return false;
-    }
-    if 0xffff_ffff < layout.area {
-        return false;
-    }
-    i < layout.functions as u64
+    layout.area <= length as u64 && layout.area <= 0xffff_ffff && i < layout.functions as u64
 }
 
 // The next function's line, in a section with a whole header. The header is not checked again for each line.
+#[tactic(auto, using(crate::proofs::LineLaws::entry_told, crate::proofs::FunctionLaws::entry_room), unfolding(crate::specs::Computed::Lines::entry_turn))]
 fn entry_turn(section: &[u8], cursor: Cursor) -> LineTurn
     requires { (28 ≤ length section.now) × (0 < cursor.left) }
     ensures { result ≡ entry_turn section.now cursor }
@@ -123,63 +110,52 @@ fn entry_turn(section: &[u8], cursor: Cursor) -> LineTurn
 }
 
 // The next function's line.
+#[tactic(auto, unfolding(crate::specs::Computed::Lines::function_turn))]
 fn function_turn(section: &[u8], cursor: Cursor) -> LineTurn
     ensures { result ≡ function_turn section.now cursor }
 {
-    if cursor.left < 1 {
-        return stopped_at(cursor);
+    if 1 <= cursor.left && 28 <= section.len() {
+        return entry_turn(section, cursor);
     }
-    if section.len() < 28 {
-        return stopped_at(cursor);
-    }
-    entry_turn(section, cursor)
+    stopped_at(cursor)
 }
 
 // The next line: a row's where the function before has one left, else the next function's.
+#[tactic(auto, unfolding(crate::specs::Computed::Lines::line_turn, crate::specs::Computed::Lines::line_by))]
 pub fn next_line(section: &[u8], cursor: Cursor) -> LineTurn
     ensures { result ≡ line_turn section.now cursor }
 {
-    let rows = cursor.rows;
-    let turn = row_turn(section, rows);
-    let next = turn.next;
-    match next {
-        NextRow::NoMore => function_turn(section, cursor),
-        NextRow::One(row) => {
-            let place = turn.place;
-            LineTurn {
-                next: NextLine::One(Line::OfRow(row)),
-                cursor: Cursor {
-                    index: cursor.index,
-                    left: cursor.left,
-                    rows: place,
-                },
-            }
-        }
+    let turn = row_turn(section, cursor.rows);
+    match turn.next {
+        Some(row) => LineTurn {
+            next: Some(Line::OfRow(row)),
+            cursor: Cursor {
+                rows: turn.place,
+                ..cursor
+            },
+        },
+        None => function_turn(section, cursor),
     }
 }
 
 // All of an accepted section; nothing of a refused one.
+#[tactic(auto, using(crate::proofs::LineLaws::accepted_long), unfolding(crate::specs::Computed::Lines::cursor_of, crate::specs::Computed::Lines::cursor_by))]
 pub fn cursor_of(section: &[u8]) -> Cursor
     ensures { result ≡ cursor_of section.now }
 {
     match check(section) {
-        Verdict::Refused { number, index } => cursor_over(0, 0),
-        Verdict::Accepted => {
-            let layout = layout_at(section);
-            cursor_over(0, layout.functions)
-        }
+        Ok(()) => cursor_over(0, layout_at(section).functions),
+        Err(_) => cursor_over(0, 0),
     }
 }
 
 // One function of an accepted section; nothing of a refused one, and nothing past its last function.
+#[tactic(auto, unfolding(crate::specs::Computed::Lines::cursor_at, crate::specs::Computed::Lines::cursor_by))]
 pub fn cursor_at(section: &[u8], index: u64) -> Cursor
     ensures { result ≡ cursor_at section.now index }
 {
     match check(section) {
-        Verdict::Refused {
-            number,
-            index: fault,
-        } => cursor_over(0, 0),
-        Verdict::Accepted => cursor_over(index, 1),
+        Ok(()) => cursor_over(index, 1),
+        Err(_) => cursor_over(0, 0),
     }
 }

@@ -1,13 +1,14 @@
-// The row reader: it holds the section's bytes and its place, and each call yields the next row of one function. A struct with a
-// slice in it is proved by hand, so both functions here are thin shells: `place_of` and `row_turn` do the work.
+// The row reader: it holds the section's bytes and its place, and each call yields the next row of one function. `place_of` and
+// `row_turn` do the work.
 ghost use Rattle.std.specs.Prelude.{◌≡◌};
 ghost use Rattle.listing.specs.Computed.Turns.{row_turn};
 ghost use Rattle.listing.specs.Computed.Reader.{place_in, place_of};
+ghost use Rattle.listing.specs.Told.{described_told};
 
-use crate::function::{Described, function_at};
-use crate::rows::{NextRow, RowPlace, nowhere, row_turn};
+use crate::function::{Facts, Undescribed, function_at};
+use crate::rows::{RowPlace, nowhere, row_turn};
 use accept::section_check::check;
-use accept::verdict::Verdict;
+use section::row::Row;
 
 #[derive(Clone, Copy)]
 pub struct RowReader<'a> {
@@ -16,41 +17,39 @@ pub struct RowReader<'a> {
 }
 
 // Where the rows of a function begin, and a place with none left where there is no such function.
-pub fn place_in(described: Described) -> RowPlace
-    ensures { result ≡ place_in described }
+#[tactic(auto, unfolding(crate::specs::Computed::Reader::place_in))]
+pub fn place_in(described: Result<Facts, Undescribed>) -> RowPlace
+    ensures { result ≡ place_in (described_told described) }
 {
     match described {
-        Described::Unsound(number) => nowhere(),
-        Described::Unknown => nowhere(),
-        Described::Function(facts) => facts.rows,
+        Ok(facts) => facts.rows,
+        Err(_) => nowhere(),
     }
 }
 
 // The same in an accepted section; none is left in a refused one.
+#[tactic(auto, unfolding(crate::specs::Computed::Reader::place_of, crate::specs::Computed::Reader::place_by))]
 pub fn place_of(section: &[u8], index: u64) -> RowPlace
     ensures { result ≡ place_of section.now index }
 {
     match check(section) {
-        Verdict::Refused {
-            number,
-            index: fault,
-        } => nowhere(),
-        Verdict::Accepted => place_in(function_at(section, index)),
+        Ok(()) => place_in(function_at(section, index)),
+        Err(_) => nowhere(),
     }
 }
 
 // A reader of one function's rows, on any bytes.
-pub fn reader_of<'a>(section: &'a [u8], index: u64) -> RowReader<'a>
+pub fn reader_of(section: &[u8], index: u64) -> RowReader<'_>
     ensures { (result.section ≡ section.entry) × (result.place ≡ place_of section.now index) }
 {
     RowReader {
-        section: section,
+        section,
         place: place_of(section, index),
     }
 }
 
 // The next row, or that there are no more, however often it is asked.
-pub fn next_row<'s, 'a>(reader: &'s mut RowReader<'a>) -> NextRow
+pub fn next_row(reader: &mut RowReader<'_>) -> Option<Row>
     ensures { (reader.new.section ≡ reader.old.section)
         × ((record { next = result; place = reader.new.place }) ≡ row_turn reader.old.section.now reader.old.place) }
 {

@@ -18,103 +18,71 @@ pub struct RowPlace {
     pub left: u64,
 }
 
-// What a turn yields.
-#[derive(Clone, Copy)]
-pub enum NextRow {
-    One(Row),
-    NoMore,
-}
-
-// A turn: what it yields, and where the reader then stands.
+// A turn: the row that it yields, if there is one more, and where the reader then stands.
 #[derive(Clone, Copy)]
 pub struct RowTurn {
-    pub next: NextRow,
+    pub next: Option<Row>,
     pub place: RowPlace,
 }
 
 // Whether an info byte names a size of offsets, and at least one.
+#[tactic(auto, unfolding(crate::specs::Computed::Turns::names_offsets))]
 fn names_offsets(info: u8) -> bool
     ensures { result ≡ names_offsets info }
 {
-    if 2 < offset_size_of(info) {
-        return false;
-    }
-    if count_of(info) < 1 {
-        return false;
-    }
-    true
+    offset_size_of(info) <= 2 && 1 <= count_of(info)
 }
 
-// Whether the fixed part of a row is inside, its start and its info byte.
+// Whether the fixed part of a row is inside, its start and its info byte. No sum passes 2^64: what is behind the place is compared.
+#[tactic(auto, unfolding(crate::specs::Computed::Turns::has_fixed))]
 fn has_fixed(section: &[u8], code: usize, at: usize) -> bool
     ensures { result ≡ has_fixed section.now code at }
 {
-    if 2 < code {
-        return false;
-    }
-    if section.len() <= at {
-        return false;
-    }
-    if section.len() - at < width_of(code) + 1 {
-        return false;
-    }
-    true
+    code <= 2 && at < section.len() && width_of(code) + 1 <= section.len() - at
 }
 
 // Whether a whole row stands at a place of the section.
+#[tactic(auto, using(crate::proofs::TurnLaws::fixed_inside), unfolding(crate::specs::Computed::Turns::can_read))]
 fn can_read(section: &[u8], code: usize, at: usize) -> bool
     ensures { result ≡ can_read section.now code at }
 {
-    if !has_fixed(section, code, at) {
-        return false;
+    if has_fixed(section, code, at) && names_offsets(info_at(section, code, at)) {
+        return row_length(section, code, at) <= section.len() - at;
     }
-    if !names_offsets(info_at(section, code, at)) {
-        return false;
-    }
-    if section.len() - at < row_length(section, code, at) {
-        return false;
-    }
-    true
+    false
 }
 
 // Whether there is a row to yield.
+#[tactic(auto, unfolding(crate::specs::Computed::Turns::has_row))]
 fn has_row(section: &[u8], place: RowPlace) -> bool
     ensures { result ≡ has_row section.now place }
 {
-    if place.left < 1 {
-        return false;
-    }
-    can_read(section, place.code, place.at)
+    1 <= place.left && can_read(section, place.code, place.at)
 }
 
 // The place past the row at a place.
+#[tactic(auto, unfolding(crate::specs::Computed::Turns::passed))]
 fn past_row(section: &[u8], place: RowPlace) -> RowPlace
     requires { has_row section.now place ≡ true }
     ensures { result ≡ passed section.now place }
 {
-    let abi = place.abi;
     RowPlace {
-        abi: abi,
-        code: place.code,
         at: place.at + row_length(section, place.code, place.at),
         left: place.left - 1,
+        ..place
     }
 }
 
 // The same place, with no row left.
+#[tactic(auto, unfolding(crate::specs::Computed::Turns::ended))]
 pub fn ended_at(place: RowPlace) -> RowPlace
     ensures { result ≡ ended place }
 {
-    let abi = place.abi;
-    RowPlace {
-        abi: abi,
-        code: place.code,
-        at: place.at,
-        left: 0,
-    }
+    RowPlace { left: 0, ..place }
 }
 
 // A place with no row left, of any section.
+#[tactic(auto, unfolding(crate::specs::Computed::Turns::nothing_left))]
 pub fn nowhere() -> RowPlace
     ensures { result ≡ nothing_left }
 {
@@ -139,18 +107,18 @@ fn decoded_at(section: &[u8], abi: Abi, code: usize, at: usize) -> Row
 }
 
 // One turn, on any bytes and from any place.
+#[tactic(auto, unfolding(crate::specs::Computed::Turns::row_turn))]
 pub fn row_turn(section: &[u8], place: RowPlace) -> RowTurn
     ensures { result ≡ row_turn section.now place }
 {
     if has_row(section, place) {
-        let abi = place.abi;
         return RowTurn {
-            next: NextRow::One(decoded_at(section, abi, place.code, place.at)),
+            next: Some(decoded_at(section, place.abi, place.code, place.at)),
             place: past_row(section, place),
         };
     }
     RowTurn {
-        next: NextRow::NoMore,
+        next: None,
         place: ended_at(place),
     }
 }

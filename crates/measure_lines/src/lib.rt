@@ -8,12 +8,12 @@ ghost use Rattle.listing.specs.Computed.Lines.{lines_left};
 ghost use Rattle.measure_lines.specs.Listed.{kind_weight, function_weight, line_weight, digest_lines, listed_of};
 
 use accept::section_check::check;
-use accept::verdict::Verdict;
 use listing::function::Kind;
-use listing::lines::{Cursor, FunctionLine, Line, NextLine, cursor_over, next_line};
+use listing::lines::{Cursor, FunctionLine, Line, LineTurn, cursor_over, next_line};
 use measure::{Measured, low_of, magnitude_of, row_weight};
 use section::header::layout_at;
 
+#[tactic(auto, unfolding(crate::specs::Listed::kind_weight))]
 fn kind_weight(kind: Kind) -> u64
     ensures value { result ≡ kind_weight kind }
     ensures range { result < 2 ^ 32 }
@@ -24,15 +24,15 @@ fn kind_weight(kind: Kind) -> u64
     }
 }
 
+#[tactic(auto, unfolding(crate::specs::Listed::function_weight))]
 fn function_weight(line: FunctionLine) -> u64
     ensures value { result ≡ function_weight line }
     ensures range { result < 6 * 2 ^ 32 }
 {
-    let start = line.start;
-    let kind = line.kind;
-    low_of(line.index) + magnitude_of(start) + line.size as u64 + kind_weight(kind)
+    low_of(line.index) + magnitude_of(line.start) + line.size as u64 + kind_weight(line.kind)
 }
 
+#[tactic(auto, unfolding(crate::specs::Listed::line_weight))]
 fn line_weight(line: Line) -> u64
     ensures value { result ≡ line_weight line }
     ensures range { result < 6 * 2 ^ 32 }
@@ -43,42 +43,37 @@ fn line_weight(line: Line) -> u64
     }
 }
 
+#[tactic(auto, using(listing::proofs::LinesLeft::yield_line, listing::proofs::LinesLeft::yield_none), unfolding(crate::specs::Listed::digest_lines))]
 fn digest_lines(section: &[u8], from: Cursor) -> u64
     ensures { result ≡ digest_lines 0 (lines_left section.now from) }
 {
     let mut digest = 0;
     let mut cursor = from;
-    loop {
-        let turn = next_line(section, cursor);
-        let next = turn.next;
-        match next {
-            NextLine::NoMore => {
-                return digest;
-            }
-            NextLine::One(line) => {
-                digest = (digest * 31 + line_weight(line)) % 0x1_0000_0000;
-                cursor = turn.cursor;
-            }
-        }
+    while let LineTurn {
+        next: Some(line),
+        cursor: rest,
+    } = next_line(section, cursor)
+    {
+        digest = (digest * 31 + line_weight(line)) % 0x1_0000_0000;
+        cursor = rest;
     }
+    digest
 }
 
+#[tactic(auto, using(listing::proofs::LineLaws::accepted_long, listing::proofs::ListingLaws::all_lines), unfolding(crate::specs::Listed::listed_by, crate::specs::Listed::listed_of, listing::specs::Listing::listing_by, listing::specs::Listing::listing_of))]
 pub fn measure_listing(section: &[u8]) -> Measured
     ensures { result ≡ listed_of section.now }
 {
     match check(section) {
-        Verdict::Refused { number, index } => Measured {
-            number: number,
-            index: index,
+        Ok(()) => Measured {
+            number: 0,
+            index: 0,
+            digest: digest_lines(section, cursor_over(0, layout_at(section).functions)),
+        },
+        Err(refusal) => Measured {
+            number: refusal.rule.number(),
+            index: refusal.index,
             digest: 0,
         },
-        Verdict::Accepted => {
-            let layout = layout_at(section);
-            Measured {
-                number: 0,
-                index: 0,
-                digest: digest_lines(section, cursor_over(0, layout.functions)),
-            }
-        }
     }
 }

@@ -10,7 +10,7 @@ use Rattle.lookup.specs.Computed.Answers.{lookup_of}
 use Rattle.lookup.specs.Outcome.{Answer}
 use Rattle.ask.specs.Numbers.{SameAnswer}
 use Rattle.ask.specs.Computed.Ask.{ask_of}
-use Rattle.ask.specs.declared.answer.AskAnswer.{AskAnswer}
+use Rattle.ask.specs.AskAnswer.{AskAnswer}
 use Rattle.ask.proofs.Agreement.{ask_agrees}
 use Rattle.ask.proofs.AsLookup.{ask_as_lookup}
 use Rattle.ask.proofs.Exactly.{answer_exactly_when, ask_due, ask_given, number_0_exactly_when, never_disputed, never_9_to_15, row_means, no_row_means, no_function_means}

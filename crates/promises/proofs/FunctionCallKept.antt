@@ -23,9 +23,8 @@ use Rattle.accept.specs.Fault.{Fault, Sound, Breaks}
 use Rattle.accept.proofs.CauseLaws.{rules_distinct, due_exactly_when}
 use Rattle.accept.proofs.Exactly.{header_exactly_when}
 use Rattle.accept.proofs.HeaderLaws.{number_of_fault, breaks_not_obeys, fault_due, fault_makes, fault_none}
+use Rattle.listing.specs.Described.{Described, Unknown, Function}
 use Rattle.listing.specs.Functions.{kind_of, rows_place, facts_of, described_in, described_by, described_of}
-use Rattle.listing.specs.declared.function.Described.{Described}
-use Rattle.listing.specs.declared.function.Described.TheVariants.{Unknown, Function}
 use Rattle.lookup.specs.Cases.{Covers}
 use Rattle.suntimpani.specs.Flat.{kind_number, repeat_of, no_function, flat_facts, flat_function}
 use Rattle.suntimpani.specs.declared.functions.FunctionInC.{FunctionInC}

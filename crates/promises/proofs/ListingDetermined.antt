@@ -27,12 +27,13 @@ use Rattle.listing.proofs.rows.nowhere.Reads as nowhere-reads
 use Rattle.listing.proofs.rows.row_turn.Kinds as row_turn-kinds
 use Rattle.listing.proofs.rows.row_turn.Reads as row_turn-reads
 use Rattle.listing.specs.declared.rows.RowTurn.{RowTurn}
+use Rattle.listing.proofs.ToldLaws.{described_told_once}
 use Rattle.promises.specs.ByClauses.{DeterminedBy}
 use Rattle.promises.specs.Determined.{Determined}
 use Rattle.promises.specs.ReaderSays.{reader_clauses, turn_clauses, reader_says, turn_says}
 
 pub function_at_determined : Determined function_at-kinds.ps function_at-kinds.r function_at-reads.Learnt
-function_at_determined κs a z z' w w' p q = (p ∙ sym q, refl)
+function_at_determined κs a z z' w w' p q = (described_told_once _ _ (p ∙ sym q), refl)
 
 pub facts_at_determined : Determined facts_at-kinds.ps facts_at-kinds.r facts_at-reads.Learnt
 facts_at_determined κs a z z' w w' p q = (p ∙ sym q, refl)

@@ -22,12 +22,11 @@ use Rattle.accept.specs.Computed.Checks.{header_fault}
 use Rattle.accept.specs.Fault.{Fault, Sound, Breaks}
 use Rattle.accept.proofs.Exactly.{header_exactly_when}
 use Rattle.accept.proofs.HeaderLaws.{breaks_not_obeys}
+use Rattle.listing.specs.Described.{Described, Unknown, Function}
 use Rattle.listing.specs.Functions.{rows_place, facts_of, described_in, described_by, described_of}
 use Rattle.listing.specs.Listing.{next_row}
 use Rattle.listing.specs.Computed.Reader.{place_in}
 use Rattle.listing.specs.Computed.Turns.{has_row, passed, ended, nothing_left, row_turn, rows_from, rows_left}
-use Rattle.listing.specs.declared.function.Described.{Described}
-use Rattle.listing.specs.declared.function.Described.TheVariants.{Unknown, Function}
 use Rattle.listing.specs.declared.rows.RowPlace.{RowPlace}
 use Rattle.listing.specs.declared.rows.RowTurn.{RowTurn}
 use Rattle.listing.proofs.AfterLaws.{left_after}

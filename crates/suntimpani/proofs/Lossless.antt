@@ -26,9 +26,9 @@ use Rattle.accept.specs.Fault.{Fault, Sound, Breaks}
 use Rattle.accept.specs.Verdict.{Verdict}
 use Rattle.accept.specs.Verdict as verdict
 use Rattle.accept.proofs.Exactly.{verdict_number_lem, number_of_rule_lem}
+use Rattle.listing.specs.Described.{Described}
+use Rattle.listing.specs.Described as described
 use Rattle.listing.specs.Functions.{facts_of, described_in, described_by, described_of}
-use Rattle.listing.specs.declared.function.Described.{Described}
-use Rattle.listing.specs.declared.function.Described.TheVariants as described
 use Rattle.listing.specs.declared.function.Kind.{Kind}
 use Rattle.listing.specs.declared.function.Kind.TheVariants.{Plain, Repeated}
 use Rattle.listing.specs.declared.rows.RowPlace.{RowPlace}

@@ -8,8 +8,7 @@ use Rattle.section.specs.declared.row.Place.TheVariants.{Register, AtOffset}
 use Rattle.section.specs.declared.row.Row.{Row}
 use Rattle.accept.specs.Given.{verdict_number, verdict_indexes}
 use Rattle.accept.specs.Verdict.{Verdict}
-use Rattle.listing.specs.declared.function.Described.{Described}
-use Rattle.listing.specs.declared.function.Described.TheVariants.{Unsound, Unknown, Function}
+use Rattle.listing.specs.Described.{Described, Unsound, Unknown, Function}
 use Rattle.listing.specs.declared.function.Facts.{Facts}
 use Rattle.listing.specs.declared.function.Kind.{Kind}
 use Rattle.listing.specs.declared.function.Kind.TheVariants.{Plain, Repeated}

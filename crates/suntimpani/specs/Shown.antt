@@ -1,8 +1,7 @@
 -- What C is shown of a function with an index: all that is said of it but where its rows stand and how they are written, which is for a
 -- reader of rows.
 use Rattle.std.specs.Prelude.{ℕ, ℤ}
-use Rattle.listing.specs.declared.function.Described.{Described}
-use Rattle.listing.specs.declared.function.Described.TheVariants.{Unsound, Unknown, Function}
+use Rattle.listing.specs.Described.{Described, Unsound, Unknown, Function}
 use Rattle.listing.specs.declared.function.Facts.{Facts}
 use Rattle.listing.specs.declared.function.Kind.{Kind}
 

@@ -1,8 +1,9 @@
 // A function by its index as the flat struct that C sees. Fields without meaning in a case are 0.
 ghost use Rattle.std.specs.Prelude.{◌≡◌};
+ghost use Rattle.listing.specs.Told.{described_told};
 ghost use Rattle.suntimpani.specs.Flat.{kind_number, repeat_of, no_function, flat_facts, flat_function};
 
-use listing::function::{Described, Facts, Kind};
+use listing::function::{Facts, Kind, Undescribed};
 
 // What is said of an index: known is 1 where there is such a function, else the number is 0 or that of a broken rule of the header.
 // Repeated is 1 for repeated blocks, with their size.
@@ -18,15 +19,17 @@ pub struct FunctionInC {
     pub repeat: u64,
 }
 
+#[tactic(auto, unfolding(crate::specs::Flat::kind_number))]
 fn kind_number(kind: Kind) -> u64
     ensures { result ≡ kind_number kind }
 {
     match kind {
         Kind::Plain => 0,
-        Kind::Repeated(size) => 1,
+        Kind::Repeated(_) => 1,
     }
 }
 
+#[tactic(auto, unfolding(crate::specs::Flat::repeat_of))]
 fn repeat_of(kind: Kind) -> u64
     ensures { result ≡ repeat_of kind }
 {
@@ -36,11 +39,12 @@ fn repeat_of(kind: Kind) -> u64
     }
 }
 
+#[tactic(auto, unfolding(crate::specs::Flat::no_function))]
 fn no_function(number: u64) -> FunctionInC
     ensures { result ≡ no_function number }
 {
     FunctionInC {
-        number: number,
+        number,
         known: 0,
         start: 0,
         size: 0,
@@ -50,29 +54,28 @@ fn no_function(number: u64) -> FunctionInC
     }
 }
 
+#[tactic(auto, unfolding(crate::specs::Flat::flat_facts))]
 fn flat_facts(facts: Facts) -> FunctionInC
     ensures { result ≡ flat_facts facts }
 {
-    let start = facts.start;
-    let kind = facts.kind;
-    let rows = facts.rows;
     FunctionInC {
         number: 0,
         known: 1,
-        start: start.by,
+        start: facts.start.by,
         size: facts.size as u64,
-        rows: rows.left,
-        repeated: kind_number(kind),
-        repeat: repeat_of(kind),
+        rows: facts.rows.left,
+        repeated: kind_number(facts.kind),
+        repeat: repeat_of(facts.kind),
     }
 }
 
-pub fn flat_function(described: Described) -> FunctionInC
-    ensures { result ≡ flat_function described }
+#[tactic(auto, unfolding(crate::specs::Flat::flat_function))]
+pub fn flat_function(described: Result<Facts, Undescribed>) -> FunctionInC
+    ensures { result ≡ flat_function (described_told described) }
 {
     match described {
-        Described::Unsound(number) => no_function(number),
-        Described::Unknown => no_function(0),
-        Described::Function(facts) => flat_facts(facts),
+        Ok(facts) => flat_facts(facts),
+        Err(Undescribed::Unsound(rule)) => no_function(rule.number()),
+        Err(Undescribed::Unknown) => no_function(0),
     }
 }

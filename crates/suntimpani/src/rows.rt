@@ -5,7 +5,7 @@ ghost use Rattle.suntimpani.specs.FlatRows.{abi_number, flat_place, flat_next, f
 ghost use Rattle.suntimpani.specs.Read.{read_rows};
 
 use crate::flat::{base_number, empty_row, flag_of, place_kind, place_offset};
-use listing::rows::{NextRow, RowPlace, RowTurn};
+use listing::rows::{RowPlace, RowTurn};
 use section::row::Row;
 use section::shape::Abi;
 
@@ -36,6 +36,7 @@ pub struct RowInC {
     pub rest: RowsInC,
 }
 
+#[tactic(auto, unfolding(crate::specs::FlatRows::abi_number))]
 fn abi_number(abi: Abi) -> u64
     ensures { result ≡ abi_number abi }
 {
@@ -47,6 +48,7 @@ fn abi_number(abi: Abi) -> u64
 }
 
 // Any number names an ABI, since any may be handed in: a place that was handed out has one of the three.
+#[tactic(auto, unfolding(section::specs::Shape::abi_of))]
 fn abi_named(number: u64) -> Abi
     ensures { result ≡ abi_of number }
 {
@@ -57,12 +59,12 @@ fn abi_named(number: u64) -> Abi
     }
 }
 
+#[tactic(auto, unfolding(crate::specs::FlatRows::flat_place))]
 pub fn flat_place(place: RowPlace) -> RowsInC
     ensures { result ≡ flat_place place }
 {
-    let abi = place.abi;
     RowsInC {
-        abi: abi_number(abi),
+        abi: abi_number(place.abi),
         code: place.code as u64,
         at: place.at as u64,
         left: place.left,
@@ -70,6 +72,7 @@ pub fn flat_place(place: RowPlace) -> RowsInC
 }
 
 // The place that is handed in, whatever its numbers.
+#[tactic(auto, unfolding(crate::specs::Read::read_rows))]
 pub fn place_read(rows: RowsInC) -> RowPlace
     ensures { result ≡ read_rows rows }
 {
@@ -81,35 +84,30 @@ pub fn place_read(rows: RowsInC) -> RowPlace
     }
 }
 
+#[tactic(auto, unfolding(crate::specs::FlatRows::flat_next))]
 fn flat_next(more: u64, row: Row, place: RowPlace) -> RowInC
     ensures { result ≡ flat_next more row place }
 {
-    let base = row.base;
-    let cfa = row.cfa;
-    let savedra = row.ra;
-    let savedfp = row.fp;
-    let ra = place_offset(savedra);
-    let fp = place_offset(savedfp);
     RowInC {
-        more: more,
+        more,
         start: row.start as u64,
-        base: base_number(base),
-        cfa: cfa.by,
-        raplace: place_kind(savedra),
-        ra: ra.by,
-        fpplace: place_kind(savedfp),
-        fp: fp.by,
+        base: base_number(row.base),
+        cfa: row.cfa.by,
+        raplace: place_kind(row.ra),
+        ra: place_offset(row.ra).by,
+        fpplace: place_kind(row.fp),
+        fp: place_offset(row.fp).by,
         signedra: flag_of(row.signed),
         rest: flat_place(place),
     }
 }
 
+#[tactic(auto, unfolding(crate::specs::FlatRows::flat_turn, crate::specs::FlatRows::flat_yield))]
 pub fn flat_turn(turn: RowTurn) -> RowInC
     ensures { result ≡ flat_turn turn }
 {
-    let next = turn.next;
-    match next {
-        NextRow::One(row) => flat_next(1, row, turn.place),
-        NextRow::NoMore => flat_next(0, empty_row(), turn.place),
+    match turn.next {
+        Some(row) => flat_next(1, row, turn.place),
+        None => flat_next(0, empty_row(), turn.place),
     }
 }

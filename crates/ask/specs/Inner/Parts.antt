@@ -12,8 +12,8 @@ use Rattle.lookup.specs.Computed.Rows.{in_block, last_row}
 use Rattle.lookup.specs.declared.rows.Hit as lookup
 use Rattle.lookup.specs.declared.rows.Stop.{Stop}
 use Rattle.lookup.specs.Inner.Search.{stop_of}
-use Rattle.ask.specs.declared.answer.AskAnswer.{AskAnswer}
-use Rattle.ask.specs.declared.answer.AskAnswer.TheVariants.{Found, NoRow, Damaged}
+use Rattle.ask.specs.AskAnswer.{AskAnswer}
+use Rattle.ask.specs.AskAnswer.{Found, NoRow, Damaged}
 use Rattle.ask.specs.declared.rows.Sought.{Sought}
 use Rattle.ask.specs.declared.rows.Sought.TheVariants.{Broken, Missed, Hit}
 use Rattle.ask.specs.declared.rows.Walk.{Walk}

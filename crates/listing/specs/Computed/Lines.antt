@@ -2,6 +2,7 @@
 use Rattle.std.specs.Prelude.{ℕ, zero, suc, ◌+◌, ◌-◌, Bool, true, false, ◌&&◌, List, [], ◌∷◌, ◌++◌, map, leb, ltb, length, Option, Some, None}
 use Rattle.section.specs.Header.{layout_of}
 use Rattle.section.specs.declared.header.Layout.{Layout}
+use Rattle.section.specs.declared.row.Row.{Row}
 use Rattle.accept.specs.Computed.Checks.{verdict}
 use Rattle.accept.specs.Verdict.{Verdict, Accepted, Refused}
 use Rattle.listing.specs.Functions.{facts_of}

@@ -2,10 +2,9 @@
 use Rattle.std.specs.Prelude.{ℕ, List}
 use Rattle.accept.specs.Computed.Checks.{verdict}
 use Rattle.accept.specs.Verdict.{Verdict, Accepted, Refused}
+use Rattle.listing.specs.Described.{Described, Unsound, Unknown, Function}
 use Rattle.listing.specs.Functions.{described_of}
 use Rattle.listing.specs.Computed.Turns.{nothing_left}
-use Rattle.listing.specs.declared.function.Described.{Described}
-use Rattle.listing.specs.declared.function.Described.TheVariants.{Unsound, Unknown, Function}
 use Rattle.listing.specs.declared.rows.RowPlace.{RowPlace}
 
 unfoldable pub place_in : Described → RowPlace

@@ -2,12 +2,12 @@
 use Rattle.std.specs.Prelude.{ℕ, ◌≤◌, ◌≡◌, false, ◌⊎◌}
 use Rattle.accept.specs.Verdict.{Verdict}
 use Rattle.accept.specs.Verdict as verdict
-use Rattle.listing.specs.declared.function.Described.{Described}
-use Rattle.listing.specs.declared.function.Described.TheVariants as described
+use Rattle.listing.specs.Described.{Described}
+use Rattle.listing.specs.Described as described
 use Rattle.lookup.specs.Outcome.{Outcome}
 use Rattle.lookup.specs.Outcome as outcome
-use Rattle.ask.specs.declared.answer.AskAnswer.{AskAnswer}
-use Rattle.ask.specs.declared.answer.AskAnswer.TheVariants as ask
+use Rattle.ask.specs.AskAnswer.{AskAnswer}
+use Rattle.ask.specs.AskAnswer as ask
 use Rattle.caller.specs.Step.{Step}
 use Rattle.caller.specs.Step as step
 use Rattle.trace.specs.Ending.{Ending}

@@ -9,7 +9,7 @@ use Rattle.section.specs.Header.{layout_of}
 use Rattle.section.specs.Meaning.{functions_of}
 use Rattle.lookup.specs.Halving.{landing}
 use Rattle.ask.specs.Computed.Ask.{where_landed, ask_in}
-use Rattle.ask.specs.declared.answer.AskAnswer.TheVariants.{Unsorted}
+use Rattle.ask.specs.AskAnswer.{Unsorted}
 use Rattle.ask.proofs.land.ask_in.Goals as goal
 
 sorted : (s : List ℕ) (d : ℤ) → (layout_of s).sorted ≡ true

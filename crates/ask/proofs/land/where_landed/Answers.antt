@@ -13,7 +13,7 @@ use Rattle.lookup.specs.Inner.Search.{past_in}
 use Rattle.lookup.proofs.CoveringLaws.{by_value}
 use Rattle.ask.specs.Computed.Ask.{where_landed}
 use Rattle.ask.specs.Inner.Parts.{past_function}
-use Rattle.ask.specs.declared.answer.AskAnswer.TheVariants.{NoFunction}
+use Rattle.ask.specs.AskAnswer.{NoFunction}
 use Rattle.ask.proofs.SoughtLaws.{past_answer}
 use Rattle.ask.proofs.land.where_landed.Goals as goal
 

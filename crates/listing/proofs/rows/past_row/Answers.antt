@@ -1,7 +1,6 @@
 -- `rows::past_row` adds the row's length: the row is inside, so that the sum is too.
 -- Assumes nothing.
 use native.Mathlib.Omega.{arith}
-use Rattle.listing.specs.Computed.Turns.{passed}
 use Rattle.listing.proofs.TurnLaws.{row_there, row_readable}
 use Rattle.listing.proofs.rows.past_row.Goals as goal
 
@@ -13,7 +12,3 @@ overflow_add-result c = rw c.row_length.ensures (omega (arith, (row_readable _ _
 
 pub overflow_sub-result : goal.overflow_sub-result
 overflow_sub-result c = omega (arith, (row_there _ _ c.requires).0)
-
-pub returns : goal.returns
-unfolding passed
-returns c = rw c.row_length.ensures
