@@ -17,11 +17,10 @@ use Rattle.accept.proofs.CauseLaws.{Distinct, Due, due_exactly_when}
 use Rattle.accept.proofs.Exactly.{number_of_rule_lem, by_number}
 use Rattle.lookup.specs.Cases.{Covers}
 use Rattle.lookup.specs.Numbers.{number_of_unfound}
+use Rattle.ask.specs.AskAnswer.{AskAnswer, Found, Unsound, Unsorted, NoFunction, NoRow, Damaged}
 use Rattle.ask.specs.Cases.{NotSorted, LandsOn, OwnRulesHold, RowCase, NoRowCase, DamagedCase, NoFunctionCase, AskCase, OnAsk}
 use Rattle.ask.specs.Numbers.{Unanswered, no_function, no_row, damaged, unsorted, number_of_unanswered, AskCause, unsound, unanswered, number_of_ask_cause, ask_number}
 use Rattle.ask.specs.Computed.Ask.{ask_of}
-use Rattle.ask.specs.declared.answer.AskAnswer.{AskAnswer}
-use Rattle.ask.specs.declared.answer.AskAnswer.TheVariants.{Found, Unsound, Unsorted, NoFunction, NoRow, Damaged}
 use Rattle.ask.proofs.CaseLaws.{case_given, some_case}
 
 -- ---- no two causes have one number

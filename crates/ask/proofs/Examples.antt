@@ -14,11 +14,10 @@ use Rattle.accept.specs.Computed.Checks.{entry_fault}
 use Rattle.lookup.specs.Halving.{landing}
 use Rattle.lookup.specs.Computed.Covering.{covers}
 use Rattle.lookup.specs.Computed.Rows.{row_for}
+use Rattle.ask.specs.AskAnswer.{AskAnswer, Found, Unsound, Unsorted, NoFunction, NoRow, Damaged}
 use Rattle.ask.specs.Numbers.{ask_number}
 use Rattle.ask.specs.Computed.Ask.{with_row, checked_row, in_function, ask_of}
 use Rattle.ask.specs.Inner.Opened.{ask_opened}
-use Rattle.ask.specs.declared.answer.AskAnswer.{AskAnswer}
-use Rattle.ask.specs.declared.answer.AskAnswer.TheVariants.{Found, Unsound, Unsorted, NoFunction, NoRow, Damaged}
 
 -- ---- "Loaded at 0x400000": in S, which is accepted and sorted, as a lookup
 

@@ -1,8 +1,7 @@
 -- The answer of an asked address as the flat struct of a lookup, and how it is read back. Fields without meaning in a case are 0.
 use Rattle.std.specs.Prelude.{true, false, eqb, get_or}
+use Rattle.ask.specs.AskAnswer.{AskAnswer, Found, Unsound, Unsorted, NoFunction, NoRow, Damaged}
 use Rattle.ask.specs.Numbers.{ask_number, ask_indexes, ask_row, ask_compared}
-use Rattle.ask.specs.declared.answer.AskAnswer.{AskAnswer}
-use Rattle.ask.specs.declared.answer.AskAnswer.TheVariants.{Found, Unsound, Unsorted, NoFunction, NoRow, Damaged}
 use Rattle.suntimpani.specs.Flat.{empty_row, flat_row}
 use Rattle.suntimpani.specs.Read.{read_row}
 use Rattle.suntimpani.specs.declared.flat.AnswerInC.{AnswerInC}

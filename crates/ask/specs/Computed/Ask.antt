@@ -10,8 +10,7 @@ use Rattle.lookup.specs.Halving.{landing}
 use Rattle.lookup.specs.Computed.Covering.{covers}
 use Rattle.lookup.specs.Computed.Rows.{row_for}
 use Rattle.lookup.specs.declared.rows.Hit.{Hit}
-use Rattle.ask.specs.declared.answer.AskAnswer.{AskAnswer}
-use Rattle.ask.specs.declared.answer.AskAnswer.TheVariants.{Found, Unsound, Unsorted, NoFunction, NoRow, Damaged}
+use Rattle.ask.specs.AskAnswer.{AskAnswer, Found, Unsound, Unsorted, NoFunction, NoRow, Damaged}
 
 -- "Header faults answer 1 to 8"
 unfoldable pub ask_after : Fault → AskAnswer → AskAnswer

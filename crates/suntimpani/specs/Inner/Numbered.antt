@@ -6,8 +6,8 @@ use Rattle.listing.specs.declared.function.Described.{Described}
 use Rattle.listing.specs.declared.function.Described.TheVariants as described
 use Rattle.lookup.specs.declared.answer.Outcome.{Outcome}
 use Rattle.lookup.specs.declared.answer.Outcome.TheVariants as outcome
-use Rattle.ask.specs.declared.answer.AskAnswer.{AskAnswer}
-use Rattle.ask.specs.declared.answer.AskAnswer.TheVariants as ask
+use Rattle.ask.specs.AskAnswer.{AskAnswer}
+use Rattle.ask.specs.AskAnswer as ask
 use Rattle.caller.specs.declared.registers.Step.{Step}
 use Rattle.caller.specs.declared.registers.Step.TheVariants as step
 use Rattle.trace.specs.declared.answer.Ending.{Ending}
