@@ -20,9 +20,9 @@ use Rattle.lookup.specs.Computed.Answers as look
 use Rattle.lookup.specs.Computed.Answers.{with_cover, outcome, answer, answer_of, answer_after, lookup_of}
 use Rattle.lookup.specs.Computed.Covering.{covers, covering, cover_of}
 use Rattle.lookup.specs.Computed.Rows.{row_for}
-use Rattle.lookup.specs.declared.answer.Answer.{Answer}
-use Rattle.lookup.specs.declared.answer.Outcome.{Outcome}
-use Rattle.lookup.specs.declared.answer.Outcome.TheVariants as outcome
+use Rattle.lookup.specs.Outcome.{Answer}
+use Rattle.lookup.specs.Outcome.{Outcome}
+use Rattle.lookup.specs.Outcome as outcome
 use Rattle.lookup.specs.declared.rows.Hit.{Hit}
 use Rattle.lookup.specs.declared.search.Cover.TheVariants.{Nobody, One}
 use Rattle.lookup.specs.Inner.Search.{landed_on, cover_by}

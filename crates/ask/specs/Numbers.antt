@@ -6,7 +6,7 @@ use Rattle.accept.specs.Given.{number_of_rule}
 use Rattle.accept.specs.declared.verdict.Rule.{Rule}
 use Rattle.lookup.specs.Numbers as lookup
 use Rattle.lookup.specs.Numbers.{number_of_unfound, outcome_number, outcome_indexes, outcome_row}
-use Rattle.lookup.specs.declared.answer.Answer.{Answer}
+use Rattle.lookup.specs.Outcome.{Answer}
 use Rattle.ask.specs.AskAnswer.{AskAnswer, Found, Unsound, Unsorted, NoFunction, NoRow, Damaged}
 
 -- ---- causes

@@ -15,7 +15,7 @@ use Rattle.caller.specs.Cases.{Asks, AsksNothing, CfaIs, RowFound, CallerCase}
 use Rattle.caller.specs.Frame.{just_before, asked_of, base_value, cfa_of}
 use Rattle.caller.specs.Computed.Caller.{step_of, step_in}
 use Rattle.caller.specs.declared.registers.Registers.{Registers}
-use Rattle.caller.specs.declared.registers.Step.TheVariants.{Caller, Refused}
+use Rattle.caller.specs.Step.{Caller, Refused}
 use Rattle.caller.specs.declared.registers.Process.{Process}
 use Rattle.caller.proofs.LookedUpLaws.{nowhere_refused}
 use Rattle.caller.proofs.RegisterLaws.{asked_unmarked, asked_marked}

@@ -24,7 +24,7 @@ use Rattle.lookup.specs.Cases.{NoneCovers, SomeTwoCover, FoundCase, NoRowCase, r
 use Rattle.lookup.specs.Finding.{Finding}
 use Rattle.lookup.specs.Numbers.{no_function, dispute, no_row, number_of_unfound}
 use Rattle.lookup.specs.Computed.Answers.{lookup_of, look_in}
-use Rattle.lookup.specs.declared.answer.Outcome.TheVariants.{Found}
+use Rattle.lookup.specs.Outcome.{Found}
 use Rattle.lookup.proofs.CoveringLaws.{is_true}
 use Rattle.lookup.proofs.Exactly as lookup
 use Rattle.caller.specs.Cases.{Rule41, WindowFits, NoMark, Aarch64, Rule24, Rule25, Rule26, Rule27, Rule28, LookedUp, NothingAsked, RowFound, CfaAt, WordsAt, OnRefusal, OnStep, CallerCase, Case}
@@ -36,8 +36,8 @@ use Rattle.caller.specs.declared.place.Values.{Values}
 use Rattle.caller.specs.declared.place.Needed.{Needed}
 use Rattle.caller.specs.declared.place.Needed.TheVariants.{Ra, Fp}
 use Rattle.caller.specs.declared.registers.Registers.{Registers}
-use Rattle.caller.specs.declared.registers.Step.{Step}
-use Rattle.caller.specs.declared.registers.Step.TheVariants.{Caller, Unsound, Refused}
+use Rattle.caller.specs.Step.{Step}
+use Rattle.caller.specs.Step.{Caller, Unsound, Refused}
 use Rattle.caller.specs.declared.registers.Process.{Process}
 use Rattle.caller.proofs.MachineLaws.{rule_24_bytes, rule_27_bytes, cfa_in_bytes, ra_in_bytes, fp_in_bytes, pc_in_bytes}
 use Rattle.caller.proofs.NumberLaws as numbers

@@ -35,8 +35,8 @@ use Rattle.caller.specs.declared.place.Values.{Values}
 use Rattle.caller.specs.declared.place.Needed.{Needed}
 use Rattle.caller.specs.declared.place.Needed.TheVariants.{Fp}
 use Rattle.caller.specs.declared.registers.Registers.{Registers}
-use Rattle.caller.specs.declared.registers.Step.{Step}
-use Rattle.caller.specs.declared.registers.Step.TheVariants.{Caller, Unsound, Refused}
+use Rattle.caller.specs.Step.{Step}
+use Rattle.caller.specs.Step.{Caller, Unsound, Refused}
 use Rattle.caller.specs.declared.registers.Process.{Process}
 
 -- ---- K10: "stack at 0x7000, 64 bytes, all zero but the word 0x401008 at 0x7000"

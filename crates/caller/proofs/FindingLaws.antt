@@ -17,8 +17,8 @@ use Rattle.lookup.specs.Cases.{FoundCase, UnfoundCase}
 use Rattle.lookup.specs.Finding.{finds, refuses, finding_of}
 use Rattle.lookup.specs.Numbers.{Unfound, number_of_unfound, outcome_number}
 use Rattle.lookup.specs.Computed.Answers.{answer_after, lookup_of, look_in}
-use Rattle.lookup.specs.declared.answer.Outcome.{Outcome}
-use Rattle.lookup.specs.declared.answer.Outcome.TheVariants.{Found, Unsound, NoFunction, Dispute, NoRow}
+use Rattle.lookup.specs.Outcome.{Outcome}
+use Rattle.lookup.specs.Outcome.{Found, Unsound, NoFunction, Dispute, NoRow}
 use Rattle.lookup.proofs.Exactly.{found_exactly_when}
 use Rattle.lookup.proofs.NumberLaws as lookup
 use Rattle.lookup.proofs.NumberLaws.{number_of_unfound_lem}

@@ -11,3 +11,4 @@ pub mod SignatureLaws
 pub mod Signed
 pub mod StepLaws
 pub mod TestLaws
+pub mod ToldLaws

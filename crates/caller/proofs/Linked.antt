@@ -16,6 +16,7 @@ use Rattle.caller.proofs.TheLinks.caller-place-spot_at as link-place-spot_at
 use Rattle.caller.proofs.TheLinks.caller-place-spot_of as link-place-spot_of
 use Rattle.caller.proofs.TheLinks.caller-place-value_at as link-place-value_at
 use Rattle.caller.proofs.TheLinks.caller-place-values_at as link-place-values_at
+use Rattle.caller.proofs.TheLinks.caller-registers-Registers-refuse as link-registers-Registers-refuse
 use Rattle.caller.proofs.TheLinks.caller-registers-caller_sp as link-registers-caller_sp
 use Rattle.caller.proofs.TheLinks.caller-signature-clear as link-signature-clear
 use Rattle.caller.proofs.TheLinks.caller-registers-Registers-with_values as link-registers-Registers-with_values
@@ -33,6 +34,7 @@ use Rattle.caller.proofs.TheLinks.caller-registers-just_before as link-registers
 use Rattle.caller.proofs.TheLinks.caller-registers-asked_of as link-registers-asked_of
 use Rattle.caller.proofs.TheLinks.caller-registers-Registers-step_checked as link-registers-Registers-step_checked
 use Rattle.caller.proofs.TheLinks.caller-registers-Registers-step as link-registers-Registers-step
+use Rattle.caller.proofs.TheLinks.caller-registers-StepCause-number as link-registers-StepCause-number
 use Rattle.caller.proofs.TheLinks.caller-registers-cfa_of_sp as link-registers-cfa_of_sp
 
 -- the functions with their code, before more
@@ -43,6 +45,7 @@ entries more =
     ("caller::place::spot_of", link-place-spot_of.entry) ∷
     ("caller::place::value_at", link-place-value_at.entry) ∷
     ("caller::place::values_at", link-place-values_at.entry) ∷
+    ("caller::registers::Registers::refuse", link-registers-Registers-refuse.entry) ∷
     ("caller::registers::caller_sp", link-registers-caller_sp.entry) ∷
     ("caller::signature::clear", link-signature-clear.entry) ∷
     ("caller::registers::Registers::with_values", link-registers-Registers-with_values.entry) ∷
@@ -60,6 +63,7 @@ entries more =
     ("caller::registers::asked_of", link-registers-asked_of.entry) ∷
     ("caller::registers::Registers::step_checked", link-registers-Registers-step_checked.entry) ∷
     ("caller::registers::Registers::step", link-registers-Registers-step.entry) ∷
+    ("caller::registers::StepCause::number", link-registers-StepCause-number.entry) ∷
     ("caller::registers::cfa_of_sp", link-registers-cfa_of_sp.entry) ∷
     more
 
@@ -70,6 +74,7 @@ pub record Finds (look : Symbol → Entry) : Type 0 where
   pub place_spot_of : look "caller::place::spot_of" ≡ link-place-spot_of.entry
   pub place_value_at : look "caller::place::value_at" ≡ link-place-value_at.entry
   pub place_values_at : look "caller::place::values_at" ≡ link-place-values_at.entry
+  pub registers_Registers_refuse : look "caller::registers::Registers::refuse" ≡ link-registers-Registers-refuse.entry
   pub registers_caller_sp : look "caller::registers::caller_sp" ≡ link-registers-caller_sp.entry
   pub signature_clear : look "caller::signature::clear" ≡ link-signature-clear.entry
   pub registers_Registers_with_values : look "caller::registers::Registers::with_values" ≡ link-registers-Registers-with_values.entry
@@ -87,6 +92,7 @@ pub record Finds (look : Symbol → Entry) : Type 0 where
   pub registers_asked_of : look "caller::registers::asked_of" ≡ link-registers-asked_of.entry
   pub registers_Registers_step_checked : look "caller::registers::Registers::step_checked" ≡ link-registers-Registers-step_checked.entry
   pub registers_Registers_step : look "caller::registers::Registers::step" ≡ link-registers-Registers-step.entry
+  pub registers_StepCause_number : look "caller::registers::StepCause::number" ≡ link-registers-StepCause-number.entry
   pub registers_cfa_of_sp : look "caller::registers::cfa_of_sp" ≡ link-registers-cfa_of_sp.entry
 
 module _ (look : Symbol → Entry) (in_numbers : numbers.Finds look) (in_section : section.Finds look) (in_accept : accept.Finds look) (in_lookup : lookup.Finds look) (here : Finds look) where
@@ -105,6 +111,9 @@ module _ (look : Symbol → Entry) (in_numbers : numbers.Finds look) (in_section
   pub place_values_at : HasT look false link-place-values_at.code
   place_values_at = link-place-values_at.has look false here.place_values_at place_value_at
 
+  pub registers_Registers_refuse : HasT look false link-registers-Registers-refuse.code
+  registers_Registers_refuse = link-registers-Registers-refuse.has look false here.registers_Registers_refuse
+
   pub registers_caller_sp : HasT look false link-registers-caller_sp.code
   registers_caller_sp = link-registers-caller_sp.has look false here.registers_caller_sp
 
@@ -112,10 +121,10 @@ module _ (look : Symbol → Entry) (in_numbers : numbers.Finds look) (in_section
   signature_clear = link-signature-clear.has look false here.signature_clear
 
   pub registers_Registers_with_values : HasT look false link-registers-Registers-with_values.code
-  registers_Registers_with_values = link-registers-Registers-with_values.has look false here.registers_Registers_with_values registers_caller_sp signature_clear
+  registers_Registers_with_values = link-registers-Registers-with_values.has look false here.registers_Registers_with_values registers_Registers_refuse registers_caller_sp signature_clear
 
   pub registers_Registers_from_spots : HasT look false link-registers-Registers-from_spots.code
-  registers_Registers_from_spots = link-registers-Registers-from_spots.has look false here.registers_Registers_from_spots place_is_lost place_values_at registers_Registers_with_values
+  registers_Registers_from_spots = link-registers-Registers-from_spots.has look false here.registers_Registers_from_spots place_is_lost place_values_at registers_Registers_refuse registers_Registers_with_values
 
   pub registers_is_low : HasT look false link-registers-is_low.code
   registers_is_low = link-registers-is_low.has look false here.registers_is_low
@@ -127,7 +136,7 @@ module _ (look : Symbol → Entry) (in_numbers : numbers.Finds look) (in_section
   signature_mask_of = link-signature-mask_of.has look false here.signature_mask_of signature_is_signed
 
   pub registers_Registers_from_cfa : HasT look false link-registers-Registers-from_cfa.code
-  registers_Registers_from_cfa = link-registers-Registers-from_cfa.has look false here.registers_Registers_from_cfa place_spot_of registers_Registers_from_spots registers_caller_sp registers_is_low signature_mask_of
+  registers_Registers_from_cfa = link-registers-Registers-from_cfa.has look false here.registers_Registers_from_cfa place_spot_of registers_Registers_from_spots registers_Registers_refuse registers_caller_sp registers_is_low signature_mask_of
 
   pub registers_base_value : HasT look false link-registers-base_value.code
   registers_base_value = link-registers-base_value.has look false here.registers_base_value
@@ -139,10 +148,10 @@ module _ (look : Symbol → Entry) (in_numbers : numbers.Finds look) (in_section
   signature_is_maskless = link-signature-is_maskless.has look false here.signature_is_maskless signature_is_signed
 
   pub registers_Registers_from_row : HasT look false link-registers-Registers-from_row.code
-  registers_Registers_from_row = link-registers-Registers-from_row.has look false here.registers_Registers_from_row registers_Registers_from_cfa registers_cfa_of signature_is_maskless
+  registers_Registers_from_row = link-registers-Registers-from_row.has look false here.registers_Registers_from_row registers_Registers_from_cfa registers_Registers_refuse registers_cfa_of signature_is_maskless
 
   pub registers_Registers_from_outcome : HasT look false link-registers-Registers-from_outcome.code
-  registers_Registers_from_outcome = link-registers-Registers-from_outcome.has look false here.registers_Registers_from_outcome registers_Registers_from_row
+  registers_Registers_from_outcome = link-registers-Registers-from_outcome.has look false here.registers_Registers_from_outcome registers_Registers_from_row registers_Registers_refuse
 
   pub registers_just_before : HasT look false link-registers-just_before.code
   registers_just_before = link-registers-just_before.has look false here.registers_just_before
@@ -151,10 +160,13 @@ module _ (look : Symbol → Entry) (in_numbers : numbers.Finds look) (in_section
   registers_asked_of = link-registers-asked_of.has look false here.registers_asked_of registers_just_before
 
   pub registers_Registers_step_checked : HasT look false link-registers-Registers-step_checked.code
-  registers_Registers_step_checked = link-registers-Registers-step_checked.has look false here.registers_Registers_step_checked registers_Registers_from_outcome registers_asked_of (lookup.look_look look in_numbers in_section in_accept in_lookup) (section.shape_shape_of look in_numbers in_section)
+  registers_Registers_step_checked = link-registers-Registers-step_checked.has look false here.registers_Registers_step_checked registers_Registers_from_outcome registers_Registers_refuse registers_asked_of (lookup.look_look look in_numbers in_section in_accept in_lookup) (section.shape_shape_of look in_numbers in_section)
 
   pub registers_Registers_step : HasT look false link-registers-Registers-step.code
-  registers_Registers_step = link-registers-Registers-step.has look false here.registers_Registers_step (accept.section_check_check look in_numbers in_section in_accept) registers_Registers_step_checked (numbers.address_window_fits look in_numbers) (section.header_layout_at look in_numbers in_section)
+  registers_Registers_step = link-registers-Registers-step.has look false here.registers_Registers_step (accept.section_check_check look in_numbers in_section in_accept) registers_Registers_refuse registers_Registers_step_checked (numbers.address_window_fits look in_numbers) (section.header_layout_at look in_numbers in_section)
+
+  pub registers_StepCause_number : HasT look false link-registers-StepCause-number.code
+  registers_StepCause_number = link-registers-StepCause-number.has look false here.registers_StepCause_number (accept.verdict_Rule_number look in_numbers in_section in_accept)
 
   pub registers_cfa_of_sp : HasT look false link-registers-cfa_of_sp.code
   registers_cfa_of_sp = link-registers-cfa_of_sp.has look false here.registers_cfa_of_sp

@@ -12,12 +12,12 @@ use Rattle.section.specs.declared.shape.Shape.{Shape}
 use Rattle.lookup.specs.Finding.{Finding, finding_of}
 use Rattle.lookup.specs.Computed.Answers.{answer_of, look_in}
 use Rattle.lookup.specs.Inner.Requires.{AcceptedOf}
-use Rattle.lookup.specs.declared.answer.Answer.{Answer}
+use Rattle.lookup.specs.Outcome.{Answer}
 use Rattle.caller.specs.Frame.{asked_of}
 use Rattle.caller.specs.Computed.Caller.{look_at, with_finding, from_finding, step_of}
 use Rattle.caller.specs.declared.registers.Registers.{Registers}
-use Rattle.caller.specs.declared.registers.Step.{Step}
-use Rattle.caller.specs.declared.registers.Step.TheVariants.{Refused}
+use Rattle.caller.specs.Step.{Step}
+use Rattle.caller.specs.Step.{Refused}
 use Rattle.caller.specs.declared.registers.Process.{Process}
 
 -- where there is no PC to look up, whatever a lookup would find

@@ -27,8 +27,8 @@ use Rattle.caller.specs.Numbers.{Refusal, unfound, signed, cfa_outside, cfa_low,
 use Rattle.caller.specs.Signature.{mask_of, clear}
 use Rattle.caller.specs.Computed.Caller.{spot_of, value_of, both_of, values_of, if_fits, step_after, look_at, with_finding, unless_maskless, with_cfa, unless_low, unless_lost, with_values, from_spots, from_cfa, from_row, from_finding, step_of, step_in}
 use Rattle.caller.specs.declared.registers.Registers.{Registers}
-use Rattle.caller.specs.declared.registers.Step.{Step}
-use Rattle.caller.specs.declared.registers.Step.TheVariants.{Caller, Unsound, Refused}
+use Rattle.caller.specs.Step.{Step}
+use Rattle.caller.specs.Step.{Caller, Unsound, Refused}
 use Rattle.caller.specs.declared.registers.Process.{Process}
 use Rattle.caller.proofs.FindingLaws.{finds_exactly_when, unfound_exactly_when, looked_up}
 use Rattle.caller.proofs.LookedUpLaws.{nowhere_refused}

@@ -22,8 +22,8 @@ use Rattle.caller.specs.Frame.{asked_of, cfa_of, caller_sp}
 use Rattle.caller.specs.Numbers.{Refusal, unfound, signed, cfa_outside, cfa_low, ra_lost, word_outside, number_of_refusal, StepCause, window, unsound, refused, number_of_step_cause}
 use Rattle.caller.specs.Signature.{Signed, mask_of, clear}
 use Rattle.caller.specs.declared.registers.Registers.{Registers}
-use Rattle.caller.specs.declared.registers.Step.{Step}
-use Rattle.caller.specs.declared.registers.Step.TheVariants.{Caller, Unsound, Refused}
+use Rattle.caller.specs.Step.{Step}
+use Rattle.caller.specs.Step.{Caller, Unsound, Refused}
 use Rattle.caller.specs.declared.registers.Process.{Process}
 
 -- ---- the stack window

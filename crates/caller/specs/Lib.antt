@@ -3,5 +3,7 @@ pub mod Frame
 pub mod InBytes
 pub mod Numbers
 pub mod Signature
+pub mod Step
+pub mod Told
 pub mod Computed
 pub mod Inner

@@ -5,8 +5,8 @@ use Rattle.accept.specs.Given.{number_of_rule}
 use Rattle.accept.specs.declared.verdict.Rule.{Rule}
 use Rattle.lookup.specs.Numbers.{Unfound, number_of_unfound}
 use Rattle.caller.specs.declared.registers.Registers.{Registers}
-use Rattle.caller.specs.declared.registers.Step.{Step}
-use Rattle.caller.specs.declared.registers.Step.TheVariants.{Caller, Unsound, Refused}
+use Rattle.caller.specs.Step.{Step}
+use Rattle.caller.specs.Step.{Caller, Unsound, Refused}
 
 -- ---- causes
 

@@ -3,7 +3,9 @@ ghost use Rattle.std.specs.Prelude.{◌≡◌};
 ghost use Rattle.numbers.specs.Computed.Address.{in_memory};
 ghost use Rattle.caller.specs.Frame.{just_before, asked_of, base_value, cfa_of, caller_sp, cfa_of_sp};
 ghost use Rattle.caller.specs.Computed.Caller.{is_low};
+ghost use Rattle.caller.specs.Told.{cause_number};
 
+use accept::verdict::Refusal;
 use numbers::address::address_of;
 use section::row::{Base, Row};
 
@@ -28,22 +30,57 @@ pub struct Process {
     pub mask: u64,
 }
 
-// What a step answers. The largest field stands first, so that it is not moved about.
+// Why there is no caller.
 #[derive(Clone, Copy)]
-pub enum Step {
-    // The caller's registers.
-    Caller(Registers),
-    // 1 to 15: the section breaks a rule, at the entry with this index. The registers are the old ones.
-    Unsound {
-        old: Registers,
-        number: u64,
-        index: u64,
-    },
-    // 21 to 28, and 41, with the old registers.
-    Refused {
-        old: Registers,
-        number: u64,
-    },
+pub enum StepCause {
+    // 41: the stack window ends past the last address.
+    Window,
+    // 1 to 15: the section breaks a rule.
+    Unsound(Refusal),
+    // 21: no function covers the PC, or there is none to look up.
+    NoFunction,
+    // 22: two or more functions cover it.
+    Dispute,
+    // 23: the one function that covers it has no row there.
+    NoRow,
+    // 24: RA is signed, and no mask says by which bits.
+    Signed,
+    // 25: CFA is no address.
+    CfaOutside,
+    // 26: the stack would not shrink.
+    CfaLow,
+    // 27: RA would be in LR, which is trusted in the first frame alone.
+    RaLost,
+    // 28: a word that is needed is not wholly inside the stack window.
+    WordOutside,
+}
+
+impl StepCause {
+    // The number that a step is refused with.
+    #[tactic(auto, unfolding(accept::specs::Given::number_of_rule))]
+    pub fn number(self) -> u64
+        ensures { result ≡ cause_number self }
+    {
+        match self {
+            StepCause::Window => 41,
+            StepCause::Unsound(refusal) => refusal.rule.number(),
+            StepCause::NoFunction => 21,
+            StepCause::Dispute => 22,
+            StepCause::NoRow => 23,
+            StepCause::Signed => 24,
+            StepCause::CfaOutside => 25,
+            StepCause::CfaLow => 26,
+            StepCause::RaLost => 27,
+            StepCause::WordOutside => 28,
+        }
+    }
+}
+
+// A refused step hands the old registers back. They stand first, so that they are not moved about.
+#[derive(Clone, Copy)]
+pub struct StepRefusal {
+    pub old: Registers,
+    pub cause: StepCause,
 }
 
 // One before a PC. A return address stands behind its call, and behind the function where the call is the function's last instruction;

@@ -1,18 +1,21 @@
-// One step, from a frame to its caller: in document 01's order, the first rule that is broken refuses and hands the old registers
-// back.
+// One step, from a frame to its caller: in the order of the specification, the first rule that is broken refuses and hands the old
+// registers back.
 ghost use Rattle.std.specs.Prelude.{◌≡◌};
 ghost use Rattle.section.specs.Meaning.{shape_of};
 ghost use Rattle.lookup.specs.Finding.{finding_of};
 ghost use Rattle.lookup.specs.Computed.Answers.{look_in};
 ghost use Rattle.lookup.specs.Inner.Requires.{AcceptedOf};
+ghost use Rattle.lookup.specs.Told.{outcome_told};
 ghost use Rattle.caller.specs.Computed.Caller.{with_values, from_spots, from_cfa, from_row, from_finding, step_of, step_in};
+ghost use Rattle.caller.specs.Told.{refusal_told, step_told};
 
 use crate::place::{Needed, Spot, Values, is_lost, spot_of, values_at};
-use crate::registers::{Process, Registers, Step, asked_of, caller_sp, cfa_of, is_low};
+use crate::registers::{
+    Process, Registers, StepCause, StepRefusal, asked_of, caller_sp, cfa_of, is_low,
+};
 use crate::signature::{clear, is_maskless, mask_of};
 use accept::section_check::check;
-use accept::verdict::Verdict;
-use lookup::answer::Outcome;
+use lookup::answer::{Found, Unfound};
 use lookup::look::look;
 use numbers::address::window_fits;
 use section::header::{Layout, layout_at};
@@ -20,17 +23,27 @@ use section::row::Row;
 use section::shape::{Shape, shape_of};
 
 impl Registers {
+    // No caller, and the old registers.
+    fn refuse(self, cause: StepCause) -> Result<Registers, StepRefusal>
+        ensures { step_told result ≡ refusal_told self cause }
+    {
+        Err(StepRefusal { old: self, cause })
+    }
+
     // 28, or the caller: its PC is RA without the bits of the mask, wherever RA came from.
-    fn with_values(self, mask: u64, cfa: u64, values: Result<Values, Needed>) -> Step
-        ensures { result ≡ with_values self mask cfa values }
+    #[tactic(auto, unfolding(crate::specs::Computed::Caller::with_values))]
+    fn with_values(
+        self,
+        mask: u64,
+        cfa: u64,
+        values: Result<Values, Needed>,
+    ) -> Result<Registers, StepRefusal>
+        ensures { step_told result ≡ with_values self mask cfa values }
     {
         let lr = self.lr;
         match values {
-            Err(_) => Step::Refused {
-                old: self,
-                number: 28,
-            },
-            Ok(values) => Step::Caller(Registers {
+            Err(_) => self.refuse(StepCause::WordOutside),
+            Ok(values) => Ok(Registers {
                 pc: clear(mask, values.ra),
                 sp: caller_sp(cfa),
                 fp: values.fp,
@@ -41,6 +54,7 @@ impl Registers {
     }
 
     // 27, then the words.
+    #[tactic(auto, unfolding(crate::specs::Computed::Caller::from_spots, crate::specs::Computed::Caller::unless_lost))]
     fn from_spots(
         self,
         shape: Shape,
@@ -50,14 +64,11 @@ impl Registers {
         cfa: u64,
         ra: Spot,
         fp: Spot,
-    ) -> Step
-        ensures { result ≡ from_spots shape stack.now process self mask cfa ra fp }
+    ) -> Result<Registers, StepRefusal>
+        ensures { step_told result ≡ from_spots shape stack.now process self mask cfa ra fp }
     {
         if is_lost(self, ra) {
-            return Step::Refused {
-                old: self,
-                number: 27,
-            };
+            return self.refuse(StepCause::RaLost);
         }
         let order = shape.order;
         self.with_values(
@@ -68,14 +79,19 @@ impl Registers {
     }
 
     // 26, then the places of RA and FP.
-    fn from_cfa(self, shape: Shape, stack: &[u8], process: Process, row: Row, cfa: u64) -> Step
-        ensures { result ≡ from_cfa shape stack.now process self row cfa }
+    #[tactic(auto, unfolding(crate::specs::Computed::Caller::from_cfa, crate::specs::Computed::Caller::unless_low))]
+    fn from_cfa(
+        self,
+        shape: Shape,
+        stack: &[u8],
+        process: Process,
+        row: Row,
+        cfa: u64,
+    ) -> Result<Registers, StepRefusal>
+        ensures { step_told result ≡ from_cfa shape stack.now process self row cfa }
     {
         if is_low(self, caller_sp(cfa)) {
-            return Step::Refused {
-                old: self,
-                number: 26,
-            };
+            return self.refuse(StepCause::CfaLow);
         }
         let ra = row.ra;
         let fp = row.fp;
@@ -92,50 +108,41 @@ impl Registers {
     }
 
     // The step that a row defines, with no section at hand: 24, 25 and what follows.
-    pub fn from_row(self, shape: Shape, stack: &[u8], process: Process, row: Row) -> Step
-        ensures { result ≡ from_row shape stack.now process self row }
+    #[tactic(auto, unfolding(crate::specs::Computed::Caller::from_row, crate::specs::Computed::Caller::unless_maskless, crate::specs::Computed::Caller::with_cfa))]
+    pub fn from_row(
+        self,
+        shape: Shape,
+        stack: &[u8],
+        process: Process,
+        row: Row,
+    ) -> Result<Registers, StepRefusal>
+        ensures { step_told result ≡ from_row shape stack.now process self row }
     {
         if is_maskless(shape, row, process) {
-            return Step::Refused {
-                old: self,
-                number: 24,
-            };
+            return self.refuse(StepCause::Signed);
         }
         match cfa_of(self, row) {
-            None => Step::Refused {
-                old: self,
-                number: 25,
-            },
+            None => self.refuse(StepCause::CfaOutside),
             Some(cfa) => self.from_cfa(shape, stack, process, row, cfa),
         }
     }
 
     // The step from what a lookup found.
-    fn from_outcome(self, shape: Shape, stack: &[u8], process: Process, outcome: Outcome) -> Step
-        ensures { result ≡ from_finding shape stack.now process self (finding_of outcome) }
+    #[tactic(auto, unfolding(lookup::specs::Finding::finding_of, lookup::specs::Numbers::number_of_unfound, crate::specs::Computed::Caller::from_finding, crate::specs::Computed::Caller::with_finding))]
+    fn from_outcome(
+        self,
+        shape: Shape,
+        stack: &[u8],
+        process: Process,
+        outcome: Result<Found, Unfound>,
+    ) -> Result<Registers, StepRefusal>
+        ensures { step_told result ≡ from_finding shape stack.now process self (finding_of (outcome_told outcome)) }
     {
         match outcome {
-            Outcome::Found {
-                row,
-                function,
-                number,
-            } => self.from_row(shape, stack, process, row),
-            Outcome::Unsound { number, index } => Step::Refused {
-                old: self,
-                number: number,
-            },
-            Outcome::NoFunction => Step::Refused {
-                old: self,
-                number: 21,
-            },
-            Outcome::Dispute { first, second } => Step::Refused {
-                old: self,
-                number: 22,
-            },
-            Outcome::NoRow { function } => Step::Refused {
-                old: self,
-                number: 23,
-            },
+            Ok(found) => self.from_row(shape, stack, process, found.row),
+            Err(Unfound::NoFunction) => self.refuse(StepCause::NoFunction),
+            Err(Unfound::Dispute { .. }) => self.refuse(StepCause::Dispute),
+            Err(Unfound::NoRow { .. }) => self.refuse(StepCause::NoRow),
         }
     }
 
@@ -146,15 +153,12 @@ impl Registers {
         layout: Layout,
         stack: &[u8],
         process: Process,
-    ) -> Step
+    ) -> Result<Registers, StepRefusal>
         requires { AcceptedOf section.now layout }
-        ensures { result ≡ step_of (shape_of section.now) (look_in section.now process.section) stack.now process self }
+        ensures { step_told result ≡ step_of (shape_of section.now) (look_in section.now process.section) stack.now process self }
     {
         let Some(pc) = asked_of(self) else {
-            return Step::Refused {
-                old: self,
-                number: 21,
-            };
+            return self.refuse(StepCause::NoFunction);
         };
         let answer = look(section, layout, process.section, pc);
         let outcome = answer.outcome;
@@ -163,22 +167,20 @@ impl Registers {
     }
 
     // The step on any bytes, stack and registers: 41 and 1 to 15 first.
-    pub fn step(self, section: &[u8], stack: &[u8], process: Process) -> Step
-        ensures { result ≡ step_in section.now stack.now process self }
+    pub fn step(
+        self,
+        section: &[u8],
+        stack: &[u8],
+        process: Process,
+    ) -> Result<Registers, StepRefusal>
+        ensures { step_told result ≡ step_in section.now stack.now process self }
     {
         if !window_fits(stack, process.stack) {
-            return Step::Refused {
-                old: self,
-                number: 41,
-            };
+            return self.refuse(StepCause::Window);
         }
         match check(section) {
-            Verdict::Refused { number, index } => Step::Unsound {
-                old: self,
-                number: number,
-                index: index,
-            },
-            Verdict::Accepted => self.step_checked(section, layout_at(section), stack, process),
+            Err(refusal) => self.refuse(StepCause::Unsound(refusal)),
+            Ok(()) => self.step_checked(section, layout_at(section), stack, process),
         }
     }
 }

@@ -27,7 +27,7 @@ use Rattle.accept.proofs.Exactly.{accepted_exactly_when, refused_by_a_rule}
 use Rattle.lookup.specs.Computed.Answers.{with_row, with_cover, outcome}
 use Rattle.lookup.specs.Computed.Covering.{covering, cover_of}
 use Rattle.lookup.specs.Computed.Rows.{offset_within, row_for}
-use Rattle.lookup.specs.declared.answer.Outcome.TheVariants as outcome
+use Rattle.lookup.specs.Outcome as outcome
 use Rattle.lookup.specs.declared.rows.Scan.{Scan}
 use Rattle.lookup.specs.declared.rows.Scan.TheVariants.{Missed, Hit}
 use Rattle.lookup.specs.declared.search.Cover.{Cover}

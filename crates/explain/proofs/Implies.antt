@@ -21,7 +21,7 @@ use Rattle.accept.proofs.Exactly.{accepted_exactly_when, given_exactly_when}
 use Rattle.lookup.specs.Cases.{NoneCovers, LowestTwo}
 use Rattle.lookup.specs.Numbers.{no_function, dispute, no_row}
 use Rattle.lookup.specs.Computed.Answers.{lookup_of}
-use Rattle.lookup.specs.declared.answer.Outcome.TheVariants as outcome
+use Rattle.lookup.specs.Outcome as outcome
 use Rattle.lookup.proofs.Exactly as lookups
 use Rattle.caller.specs.Cases.{WindowFits, Outside, Rule24, CfaIs, LookedUp, RowFound, CfaAt, WordsAt}
 use Rattle.caller.specs.Frame.{cfa_of}
@@ -29,7 +29,7 @@ use Rattle.caller.specs.Numbers.{unfound, signed, cfa_outside, cfa_low, ra_lost,
 use Rattle.caller.specs.Computed.Caller.{step_in}
 use Rattle.caller.specs.declared.registers.Process.{Process}
 use Rattle.caller.specs.declared.registers.Registers.{Registers}
-use Rattle.caller.specs.declared.registers.Step.TheVariants.{Caller, Unsound, Refused}
+use Rattle.caller.specs.Step.{Caller, Unsound, Refused}
 use Rattle.caller.proofs.Asked.{asked_exactly_when, nowhere_exactly_when}
 use Rattle.caller.proofs.StepLaws.{refusal_given, step_exactly_when}
 use Rattle.explain.specs.Answers.{outcome_missing, outcome_looked, outcome_reason, outcome_why, number_missing, step_row, step_reason, step_why_answer}

@@ -1,12 +1,12 @@
 -- The answer that an explanation is of: of a lookup its outcome, and of a step the caller or the refusal with the old registers.
 use Rattle.std.specs.Prelude.{ℕ, get_or}
 use Rattle.lookup.specs.Numbers.{no_function, dispute, no_row}
-use Rattle.lookup.specs.declared.answer.Outcome.{Outcome}
-use Rattle.lookup.specs.declared.answer.Outcome.TheVariants as outcome
+use Rattle.lookup.specs.Outcome.{Outcome}
+use Rattle.lookup.specs.Outcome as outcome
 use Rattle.caller.specs.Numbers.{unfound, signed, cfa_outside, cfa_low, ra_lost, word_outside, number_of_refusal, window, number_of_step_cause}
 use Rattle.caller.specs.declared.registers.Registers.{Registers}
-use Rattle.caller.specs.declared.registers.Step.{Step}
-use Rattle.caller.specs.declared.registers.Step.TheVariants.{Caller, Unsound, Refused}
+use Rattle.caller.specs.Step.{Step}
+use Rattle.caller.specs.Step.{Caller, Unsound, Refused}
 use Rattle.explain.specs.declared.why.Coverers.{Coverers}
 use Rattle.explain.specs.declared.why.Looked.{Looked}
 use Rattle.explain.specs.declared.why.Looked.TheVariants as looked

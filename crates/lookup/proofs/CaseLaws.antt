@@ -26,8 +26,8 @@ use Rattle.lookup.specs.Halving.{empty_function}
 use Rattle.lookup.specs.Numbers.{number_of_unfound, outcome_number}
 use Rattle.lookup.specs.Computed.Answers.{with_row, with_cover, outcome}
 use Rattle.lookup.specs.Computed.Rows.{offset_within, last_row, row_for}
-use Rattle.lookup.specs.declared.answer.Outcome.{Outcome}
-use Rattle.lookup.specs.declared.answer.Outcome.TheVariants.{Found, Unsound, NoFunction, Dispute, NoRow}
+use Rattle.lookup.specs.Outcome.{Outcome}
+use Rattle.lookup.specs.Outcome.{Found, Unsound, NoFunction, Dispute, NoRow}
 use Rattle.lookup.specs.declared.rows.Hit.{Hit}
 use Rattle.lookup.proofs.CoveringLaws.{unless_true, is_true, covers_shows, covers_at, NoneAt, OnlyAt, LowestAt, none_cover, one_covers, two_cover, Coverage, no_one, just_one, two_or_more, cover_cases}
 use Rattle.lookup.proofs.LastRowLaws.{last_none, last_is, row_cases}

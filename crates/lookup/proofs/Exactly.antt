@@ -21,8 +21,8 @@ use Rattle.lookup.specs.Numbers.{number_of_unfound, outcome_number}
 use Rattle.lookup.specs.Computed.Answers.{outcome, answer, answer_of, answer_after, lookup_of}
 use Rattle.lookup.specs.Computed.Covering.{covering, cover_of}
 use Rattle.lookup.specs.Inner.Search.{cover_by}
-use Rattle.lookup.specs.declared.answer.Outcome.{Outcome}
-use Rattle.lookup.specs.declared.answer.Outcome.TheVariants.{Found, Unsound, NoFunction, Dispute, NoRow}
+use Rattle.lookup.specs.Outcome.{Outcome}
+use Rattle.lookup.specs.Outcome.{Found, Unsound, NoFunction, Dispute, NoRow}
 use Rattle.lookup.proofs.CaseLaws.{functions_count, outcome_exactly_when, Reason, number_tells, lowest_two, two_unsorted}
 use Rattle.lookup.proofs.CoveringLaws.{by_value}
 use Rattle.lookup.proofs.HalvingLaws as halving

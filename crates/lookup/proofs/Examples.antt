@@ -22,7 +22,7 @@ use Rattle.lookup.specs.Computed.Answers.{with_cover, outcome, lookup_of}
 use Rattle.lookup.specs.Computed.Covering.{covering}
 use Rattle.lookup.specs.Computed.Rows.{in_block, last_row, row_for}
 use Rattle.lookup.specs.Inner.Opened.{lookup_opened}
-use Rattle.lookup.specs.declared.answer.Outcome.TheVariants.{Found, Unsound, NoFunction, Dispute, NoRow}
+use Rattle.lookup.specs.Outcome.{Found, Unsound, NoFunction, Dispute, NoRow}
 use Rattle.lookup.specs.declared.rows.Hit.{Hit}
 use Rattle.lookup.specs.declared.search.Cover.{Cover}
 use Rattle.lookup.specs.declared.search.Cover.TheVariants.{Nobody, One}

@@ -19,3 +19,4 @@ pub mod ScanLaws
 pub mod SearchLaws
 pub mod SizeZero
 pub mod TableLaws
+pub mod ToldLaws

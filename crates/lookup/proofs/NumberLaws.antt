@@ -17,8 +17,8 @@ use Rattle.accept.proofs.Exactly.{accepted_exactly_when, given_exactly_when, obe
 use Rattle.lookup.specs.Cases.{NoneCovers, OnlyCovers, LowestTwo, FoundCase, Case, UnfoundCase, OnLookup}
 use Rattle.lookup.specs.Numbers.{Unfound, no_function, dispute, no_row, number_of_unfound, LookupCause, unsound, unfound, number_of_lookup_cause, outcome_number, outcome_indexes, outcome_row}
 use Rattle.lookup.specs.Computed.Answers.{lookup_of}
-use Rattle.lookup.specs.declared.answer.Outcome.{Outcome}
-use Rattle.lookup.specs.declared.answer.Outcome.TheVariants.{Found, Unsound, NoFunction, Dispute, NoRow}
+use Rattle.lookup.specs.Outcome.{Outcome}
+use Rattle.lookup.specs.Outcome.{Found, Unsound, NoFunction, Dispute, NoRow}
 use Rattle.lookup.proofs.Exactly.{answer_exactly_when, number_21_exactly_when, number_22_exactly_when, number_23_exactly_when, unsound_exactly_when}
 
 -- ---- no two causes have one number

@@ -6,8 +6,8 @@ use Rattle.section.specs.declared.row.Row.{Row}
 use Rattle.accept.specs.Given.{BrokenFirst}
 use Rattle.accept.specs.Rules.{Obeys, function_count, row_count, row_start_at}
 use Rattle.lookup.specs.Numbers.{Unfound, no_function, dispute, no_row, LookupCause, unsound, unfound}
-use Rattle.lookup.specs.declared.answer.Outcome.{Outcome}
-use Rattle.lookup.specs.declared.answer.Outcome.TheVariants.{Found, Unsound, NoFunction, Dispute, NoRow}
+use Rattle.lookup.specs.Outcome.{Outcome}
+use Rattle.lookup.specs.Outcome.{Found, Unsound, NoFunction, Dispute, NoRow}
 
 -- ---- functions
 

@@ -2,6 +2,8 @@ pub mod Cases
 pub mod Finding
 pub mod Halving
 pub mod Numbers
+pub mod Outcome
 pub mod Scanned
+pub mod Told
 pub mod Computed
 pub mod Inner

@@ -6,15 +6,16 @@ ghost use Rattle.section.specs.Meaning.{block_of, function_in, functions_of};
 ghost use Rattle.lookup.specs.Computed.Answers.{with_row, with_cover, answer_of, lookup_of};
 ghost use Rattle.lookup.specs.Computed.Covering.{covering, cover_of};
 ghost use Rattle.lookup.specs.Computed.Rows.{in_block, row_for};
+ghost use Rattle.lookup.specs.Told.{outcome_told, answer_told, lookup_told};
 ghost use Rattle.lookup.specs.Inner.Reached.{reached_in};
 ghost use Rattle.lookup.specs.Inner.Requires.{AcceptedOf, RowAsked};
 
-use crate::answer::{Answer, Outcome};
+use crate::answer::{Answer, Found, Unfound};
 use crate::rows::{Hit, scan_rows};
 use crate::search::{Cover, find};
 use crate::table::entry_in;
 use accept::section_check::check;
-use accept::verdict::Verdict;
+use accept::verdict::Refusal;
 use numbers::held::near_of;
 use section::entry::{Entry, does_repeat, start_of};
 use section::header::{Layout, layout_at, order_at};
@@ -77,55 +78,55 @@ fn row_for(section: &[u8], layout: Layout, i: u64, address: u64, pc: u64) -> Opt
     )
 }
 
-fn with_row(function: u64, scan: Option<Hit>) -> Outcome
-    ensures { result ≡ with_row function scan }
+fn with_row(function: u64, scan: Option<Hit>) -> Result<Found, Unfound>
+    ensures { outcome_told result ≡ with_row function scan }
 {
     match scan {
-        None => Outcome::NoRow { function },
-        Some(Hit { row, number }) => Outcome::Found {
+        None => Err(Unfound::NoRow { function }),
+        Some(Hit { row, number }) => Ok(Found {
             row,
             function,
             number: number as u64,
-        },
+        }),
     }
 }
 
-fn with_cover(section: &[u8], layout: Layout, cover: Cover, address: u64, pc: u64) -> Outcome
+fn with_cover(
+    section: &[u8],
+    layout: Layout,
+    cover: Cover,
+    address: u64,
+    pc: u64,
+) -> Result<Found, Unfound>
     requires { AcceptedOf section.now layout × (cover ≡ cover_of (covering (distance address pc) (functions_of section.now))) }
-    ensures { result ≡ with_cover (distance address pc) (functions_of section.now) cover }
+    ensures { outcome_told result ≡ with_cover (distance address pc) (functions_of section.now) cover }
 {
     match cover {
-        Cover::Nobody => Outcome::NoFunction,
+        Cover::Nobody => Err(Unfound::NoFunction),
         Cover::One(i) => with_row(i, row_for(section, layout, i, address, pc)),
-        Cover::Two(first, second) => Outcome::Dispute { first, second },
+        Cover::Two(first, second) => Err(Unfound::Dispute { first, second }),
     }
 }
 
 // The answer on a section that was checked before: one check serves many lookups.
 pub fn look(section: &[u8], layout: Layout, address: u64, pc: u64) -> Answer
     requires { AcceptedOf section.now layout }
-    ensures { result ≡ answer_of section.now address pc }
+    ensures { answer_told result ≡ answer_of section.now address pc }
 {
     let search = find(section, layout, address, pc);
-    let cover = search.cover;
     Answer {
-        outcome: with_cover(section, layout, cover, address, pc),
+        outcome: with_cover(section, layout, search.cover, address, pc),
         compared: search.compared,
     }
 }
 
 // The answer on any bytes: the section checks first.
-pub fn lookup(section: &[u8], address: u64, pc: u64) -> Answer
-    ensures { result ≡ lookup_of section.now address pc }
+#[tactic(auto, unfolding(crate::specs::Computed::Answers::answer_after, crate::specs::Computed::Answers::lookup_of))]
+pub fn lookup(section: &[u8], address: u64, pc: u64) -> Result<Answer, Refusal>
+    ensures { lookup_told result ≡ lookup_of section.now address pc }
 {
     match check(section) {
-        Verdict::Refused { number, index } => Answer {
-            outcome: Outcome::Unsound {
-                number: number,
-                index: index,
-            },
-            compared: 0,
-        },
-        Verdict::Accepted => look(section, layout_at(section), address, pc),
+        Err(refusal) => Err(refusal),
+        Ok(()) => Ok(look(section, layout_at(section), address, pc)),
     }
 }

@@ -12,9 +12,9 @@ use Rattle.section.specs.declared.row.Row.{Row}
 use Rattle.accept.specs.Computed.Checks.{verdict}
 use Rattle.accept.specs.Verdict.{Verdict, Accepted, Refused}
 use Rattle.lookup.specs.Computed.Answers.{answer_of}
-use Rattle.lookup.specs.declared.answer.Answer.{Answer}
-use Rattle.lookup.specs.declared.answer.Outcome.{Outcome}
-use Rattle.lookup.specs.declared.answer.Outcome.TheVariants.{Found, Unsound, NoFunction, Dispute, NoRow}
+use Rattle.lookup.specs.Outcome.{Answer}
+use Rattle.lookup.specs.Outcome.{Outcome}
+use Rattle.lookup.specs.Outcome.{Found, Unsound, NoFunction, Dispute, NoRow}
 use Rattle.measure.specs.declared.Measured.{Measured}
 
 -- the part of a number below 2 ^ 32

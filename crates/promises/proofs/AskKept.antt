@@ -7,7 +7,7 @@ use Prim.Native.Nat.{ℕ}
 use Rattle.numbers.specs.Start.{distance}
 use Rattle.accept.proofs.Exactly.{accepted_exactly_when}
 use Rattle.lookup.specs.Computed.Answers.{lookup_of}
-use Rattle.lookup.specs.declared.answer.Answer.{Answer}
+use Rattle.lookup.specs.Outcome.{Answer}
 use Rattle.ask.specs.AskAnswer.{AskAnswer}
 use Rattle.ask.specs.Numbers.{SameAnswer}
 use Rattle.ask.specs.Computed.Ask.{ask_of}

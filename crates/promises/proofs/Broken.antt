@@ -22,7 +22,7 @@ use Rattle.accept.proofs.FaultLaws.{accepted_or_refused}
 use Rattle.lookup.specs.Numbers.{no_function, number_of_unfound, unfound, number_of_lookup_cause, outcome_number}
 use Rattle.lookup.specs.Computed.Answers.{lookup_of}
 use Rattle.lookup.specs.Inner.Opened.{lookup_opened}
-use Rattle.lookup.specs.declared.answer.Outcome.TheVariants.{Found}
+use Rattle.lookup.specs.Outcome.{Found}
 use Rattle.lookup.proofs.NumberLaws.{lookup_given}
 use Rattle.caller.specs.Cases.{Rule41}
 use Rattle.caller.specs.Numbers.{number_of_step_cause}
@@ -33,7 +33,7 @@ use Rattle.trace.specs.Frames.{all_words, over, words_of, traced_as}
 use Rattle.trace.specs.Numbers.{window, number_of_trace_cause, ending_number}
 use Rattle.trace.specs.Computed.Trace.{traced, trace_of}
 use Rattle.trace.specs.Inner.Opened.{trace_opened}
-use Rattle.trace.specs.declared.answer.Ending.TheVariants.{Outermost, Unsound}
+use Rattle.trace.specs.Ending.{Outermost, Unsound}
 use Rattle.trace.specs.declared.answer.Frame.{Frame}
 use Rattle.trace.proofs.Exactly.{unsound_exactly_when}
 use Rattle.promises.specs.Calls.{Calls}

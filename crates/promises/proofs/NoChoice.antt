@@ -19,8 +19,8 @@ use Rattle.lookup.proofs.Exactly.{answer_exactly_when, count_halving}
 use Rattle.caller.specs.Numbers.{step_number, step_indexes, step_registers}
 use Rattle.caller.specs.Computed.Caller.{step_in}
 use Rattle.caller.specs.declared.registers.Registers.{Registers}
-use Rattle.caller.specs.declared.registers.Step.{Step}
-use Rattle.caller.specs.declared.registers.Step.TheVariants.{Caller, Unsound, Refused}
+use Rattle.caller.specs.Step.{Step}
+use Rattle.caller.specs.Step.{Caller, Unsound, Refused}
 use Rattle.caller.specs.declared.registers.Process.{Process}
 use Rattle.caller.proofs.Exactly.{step_exactly_when, unsound_exactly_when, caller_exactly_when, number_0_exactly_when}
 use Rattle.caller.proofs.NumberLaws.{step_due}

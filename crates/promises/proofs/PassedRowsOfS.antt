@@ -21,8 +21,8 @@ use Rattle.accept.specs.Verdict.{Accepted}
 use Rattle.lookup.specs.Cases.{Covers, OffsetIs}
 use Rattle.lookup.specs.Scanned.{start_in, LookAlike, LookedAt, of_passed, of_found, of_stop}
 use Rattle.lookup.specs.Computed.Answers.{lookup_of}
-use Rattle.lookup.specs.declared.answer.Outcome.{Outcome}
-use Rattle.lookup.specs.declared.answer.Outcome.TheVariants.{Found, Unsound, NoFunction, Dispute, NoRow}
+use Rattle.lookup.specs.Outcome.{Outcome}
+use Rattle.lookup.specs.Outcome.{Found, Unsound, NoFunction, Dispute, NoRow}
 use Rattle.lookup.specs.Inner.Opened.{lookup_opened}
 use Rattle.lookup.proofs.AnswerAgreement.{answer_agrees}
 use Rattle.lookup.proofs.CoveringLaws.{by_value}

@@ -20,7 +20,7 @@ use Rattle.caller.proofs.TestLaws.{signed_shows}
 use Rattle.trace.specs.Cases.{DoorOpen, Follows}
 use Rattle.trace.specs.Frames.{in_force, with_mark}
 use Rattle.trace.specs.Computed.Trace.{trace_of}
-use Rattle.trace.specs.declared.answer.Ending.TheVariants.{Outermost}
+use Rattle.trace.specs.Ending.{Outermost}
 use Rattle.trace.specs.declared.answer.Frame.{Frame}
 use Rattle.trace.proofs.Exactly.{case_answers}
 use Rattle.trace.proofs.Signed.{mask_not_seen, amd64_not_seen}

@@ -10,7 +10,7 @@ use Rattle.section.specs.Header.{layout_of}
 use Rattle.section.specs.declared.row.Row.{Row}
 use Rattle.accept.specs.Rules.{Obeys}
 use Rattle.lookup.specs.Cases.{Covers}
-use Rattle.lookup.specs.declared.answer.Answer.{Answer}
+use Rattle.lookup.specs.Outcome.{Answer}
 use Rattle.ask.specs.AskAnswer.{AskAnswer, Found, NoFunction, NoRow}
 use Rattle.ask.specs.Cases.{LandsOn, OwnRulesHold, RowCase, AskCase, OnAsk}
 use Rattle.ask.specs.Numbers.{AskCause, number_of_ask_cause, ask_number, SameAnswer}

@@ -2,9 +2,9 @@
 -- well. Each demand is a predicate of such calls, so that it can be met and can be broken.
 use Rattle.std.specs.Prelude.{List, ℕ}
 use Rattle.accept.specs.Verdict.{Verdict}
-use Rattle.lookup.specs.declared.answer.Answer.{Answer}
+use Rattle.lookup.specs.Outcome.{Answer}
 use Rattle.caller.specs.declared.registers.Registers.{Registers}
-use Rattle.caller.specs.declared.registers.Step.{Step}
+use Rattle.caller.specs.Step.{Step}
 use Rattle.caller.specs.declared.registers.Process.{Process}
 use Rattle.trace.specs.Frames.{TraceReply}
 

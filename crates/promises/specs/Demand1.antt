@@ -9,16 +9,16 @@ use Rattle.accept.specs.declared.verdict.Rule.{Rule}
 use Rattle.accept.specs.Verdict as verdict
 use Rattle.lookup.specs.Cases.{OnLookup}
 use Rattle.lookup.specs.Numbers.{LookupCause, number_of_lookup_cause, outcome_number}
-use Rattle.lookup.specs.declared.answer.Outcome.TheVariants as outcome
+use Rattle.lookup.specs.Outcome as outcome
 use Rattle.caller.specs.Cases.{WindowFits, OnStep}
 use Rattle.caller.specs.Numbers.{StepCause, number_of_step_cause, step_number, step_indexes, step_registers}
 use Rattle.caller.specs.declared.registers.Registers.{Registers}
-use Rattle.caller.specs.declared.registers.Step.TheVariants as step
+use Rattle.caller.specs.Step as step
 use Rattle.caller.specs.declared.registers.Process.{Process}
 use Rattle.trace.specs.Cases.{AtDoor, DoorOpen, OnTrace}
 use Rattle.trace.specs.Frames.{TraceReply}
 use Rattle.trace.specs.Numbers.{TraceCause, number_of_trace_cause, ending_number, ending_indexes}
-use Rattle.trace.specs.declared.answer.Ending.TheVariants as ending
+use Rattle.trace.specs.Ending as ending
 use Rattle.promises.specs.Calls.{Calls}
 
 -- a number is that of a cause

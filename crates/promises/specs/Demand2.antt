@@ -8,15 +8,15 @@ use Rattle.accept.specs.Rules.{Obeys}
 use Rattle.accept.specs.Verdict.{Accepted}
 use Rattle.lookup.specs.Cases as lookup
 use Rattle.lookup.specs.Numbers.{outcome_indexes, outcome_row}
-use Rattle.lookup.specs.declared.answer.Outcome.{Outcome}
+use Rattle.lookup.specs.Outcome.{Outcome}
 use Rattle.caller.specs.Cases.{CallerCase}
 use Rattle.caller.specs.InBytes.{CallerInBytes}
 use Rattle.caller.specs.declared.registers.Registers.{Registers}
-use Rattle.caller.specs.declared.registers.Step.TheVariants.{Caller}
+use Rattle.caller.specs.Step.{Caller}
 use Rattle.caller.specs.declared.registers.Process.{Process}
 use Rattle.trace.specs.Cases as trace
 use Rattle.trace.specs.Frames.{TraceReply, with_mark, traced_as, all_words, over}
-use Rattle.trace.specs.declared.answer.Ending.{Ending}
+use Rattle.trace.specs.Ending.{Ending}
 use Rattle.trace.specs.declared.answer.Frame.{Frame}
 use Rattle.promises.specs.Calls.{Calls}
 

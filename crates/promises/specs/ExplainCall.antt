@@ -4,10 +4,10 @@ use Rattle.std.specs.Prelude.{◌≡◌, List, ℕ, ◌^◌, ◌<◌, pos, ◌+�
 use borrow.Fn.Kinds.{Dens}
 use contract.Lifetimes.{Lfts}
 use Rattle.numbers.specs.declared.offset.Offset.{Offset}
-use Rattle.lookup.specs.declared.answer.Answer.{Answer}
+use Rattle.lookup.specs.Outcome.{Answer}
 use Rattle.caller.specs.declared.registers.Process.{Process}
 use Rattle.caller.specs.declared.registers.Registers.{Registers}
-use Rattle.caller.specs.declared.registers.Step.{Step}
+use Rattle.caller.specs.Step.{Step}
 use Rattle.explain.specs.Answers.{outcome_why, step_why_answer}
 use Rattle.explain.specs.Why.{WhyLookup, WhyStep, SumIs}
 use Rattle.explain.specs.declared.sums.Sum.{Sum}

@@ -12,10 +12,10 @@ use Rattle.caller.specs.Numbers.{step_number}
 use Rattle.caller.specs.Signature.{Signed, mask_of, with_mask, Cleared, OnlySignature}
 use Rattle.caller.specs.declared.registers.Process.{Process}
 use Rattle.caller.specs.declared.registers.Registers.{Registers}
-use Rattle.caller.specs.declared.registers.Step.TheVariants.{Caller}
+use Rattle.caller.specs.Step.{Caller}
 use Rattle.trace.specs.Cases.{DoorOpen, Follows}
 use Rattle.trace.specs.Frames.{in_force, with_mark}
-use Rattle.trace.specs.declared.answer.Ending.TheVariants.{Outermost}
+use Rattle.trace.specs.Ending.{Outermost}
 use Rattle.trace.specs.declared.answer.Frame.{Frame}
 use Rattle.promises.specs.Calls.{Calls}
 use Rattle.promises.specs.StatedContracts.{Keeps}

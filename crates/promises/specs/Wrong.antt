@@ -6,7 +6,7 @@ use Rattle.accept.specs.Computed.Checks.{verdict}
 use Rattle.accept.specs.Verdict as verdict
 use Rattle.lookup.specs.Numbers.{outcome_number}
 use Rattle.lookup.specs.Computed.Answers.{lookup_of}
-use Rattle.lookup.specs.declared.answer.Outcome.TheVariants.{Found, NoFunction}
+use Rattle.lookup.specs.Outcome.{Found, NoFunction}
 use Rattle.caller.specs.Computed.Caller.{step_in}
 use Rattle.caller.specs.declared.registers.Registers.{Registers}
 use Rattle.caller.specs.declared.registers.Process.{Process}

@@ -35,16 +35,16 @@ use Rattle.listing.specs.declared.rows.RowPlace.{RowPlace}
 use Rattle.listing.specs.declared.rows.RowTurn.{RowTurn}
 use Rattle.lookup.specs.Numbers.{number_of_unfound, outcome_number, outcome_indexes, outcome_row}
 use Rattle.lookup.specs.Computed.Answers.{lookup_of}
-use Rattle.lookup.specs.declared.answer.Answer.{Answer}
-use Rattle.lookup.specs.declared.answer.Outcome.{Outcome}
-use Rattle.lookup.specs.declared.answer.Outcome.TheVariants as outcome
+use Rattle.lookup.specs.Outcome.{Answer}
+use Rattle.lookup.specs.Outcome.{Outcome}
+use Rattle.lookup.specs.Outcome as outcome
 use Rattle.lookup.proofs.Exactly as looks
 use Rattle.caller.specs.Cases as steps
 use Rattle.caller.specs.Numbers.{number_of_step_cause, step_number, step_indexes, step_registers}
 use Rattle.caller.specs.Computed.Caller.{step_in}
 use Rattle.caller.specs.declared.registers.Registers.{Registers}
-use Rattle.caller.specs.declared.registers.Step.{Step}
-use Rattle.caller.specs.declared.registers.Step.TheVariants as step
+use Rattle.caller.specs.Step.{Step}
+use Rattle.caller.specs.Step as step
 use Rattle.caller.specs.declared.registers.Process.{Process}
 use Rattle.caller.proofs.Exactly.{step_exactly_when}
 use Rattle.caller.proofs.NumberLaws.{number_of_refusal_lem}
@@ -52,10 +52,10 @@ use Rattle.trace.specs.Cases as traces
 use Rattle.trace.specs.Frames.{TraceReply, traced_as}
 use Rattle.trace.specs.Numbers.{number_of_trace_cause, ending_number, ending_indexes}
 use Rattle.trace.specs.Computed.Trace.{walk_in, trace_of, traced}
-use Rattle.trace.specs.declared.answer.Ending.{Ending}
-use Rattle.trace.specs.declared.answer.Ending.TheVariants as ending
+use Rattle.trace.specs.Ending.{Ending}
+use Rattle.trace.specs.Ending as ending
 use Rattle.trace.specs.declared.answer.Frame.{Frame}
-use Rattle.trace.specs.declared.answer.Traced.{Traced}
+use Rattle.trace.specs.Ending.{Traced}
 use Rattle.trace.proofs.Exactly.{some_case}
 use Rattle.suntimpani.specs.Flat.{flat_verdict, kind_number, repeat_of, no_function, flat_facts, flat_function, base_number, place_kind, place_offset, flag, flat_row, flat_answer, flat_step, flat_traced, handed_as, flat_trace}
 use Rattle.suntimpani.specs.FlatRows.{abi_number, flat_place, flat_next, flat_yield, flat_turn}

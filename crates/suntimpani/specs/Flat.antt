@@ -14,12 +14,12 @@ use Rattle.listing.specs.declared.function.Facts.{Facts}
 use Rattle.listing.specs.declared.function.Kind.{Kind}
 use Rattle.listing.specs.declared.function.Kind.TheVariants.{Plain, Repeated}
 use Rattle.lookup.specs.Numbers.{outcome_number, outcome_indexes, outcome_row}
-use Rattle.lookup.specs.declared.answer.Answer.{Answer}
+use Rattle.lookup.specs.Outcome.{Answer}
 use Rattle.caller.specs.Numbers.{step_number, step_indexes, step_registers}
-use Rattle.caller.specs.declared.registers.Step.{Step}
+use Rattle.caller.specs.Step.{Step}
 use Rattle.trace.specs.Frames.{TraceReply}
 use Rattle.trace.specs.Numbers.{ending_number, ending_indexes}
-use Rattle.trace.specs.declared.answer.Traced.{Traced}
+use Rattle.trace.specs.Ending.{Traced}
 use Rattle.suntimpani.specs.declared.flat.AnswerInC.{AnswerInC}
 use Rattle.suntimpani.specs.declared.flat.VerdictInC.{VerdictInC}
 use Rattle.suntimpani.specs.declared.functions.FunctionInC.{FunctionInC}

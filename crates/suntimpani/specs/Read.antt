@@ -12,15 +12,15 @@ use Rattle.listing.specs.declared.function.Kind.{Kind}
 use Rattle.listing.specs.declared.function.Kind.TheVariants.{Plain, Repeated}
 use Rattle.listing.specs.declared.rows.RowPlace.{RowPlace}
 use Rattle.listing.specs.declared.rows.RowTurn.{RowTurn}
-use Rattle.lookup.specs.declared.answer.Answer.{Answer}
-use Rattle.lookup.specs.declared.answer.Outcome.{Outcome}
-use Rattle.lookup.specs.declared.answer.Outcome.TheVariants as outcome
-use Rattle.caller.specs.declared.registers.Step.{Step}
-use Rattle.caller.specs.declared.registers.Step.TheVariants as step
+use Rattle.lookup.specs.Outcome.{Answer}
+use Rattle.lookup.specs.Outcome.{Outcome}
+use Rattle.lookup.specs.Outcome as outcome
+use Rattle.caller.specs.Step.{Step}
+use Rattle.caller.specs.Step as step
 use Rattle.trace.specs.Frames.{TraceReply, traced_as}
-use Rattle.trace.specs.declared.answer.Ending.{Ending}
-use Rattle.trace.specs.declared.answer.Ending.TheVariants as ending
-use Rattle.trace.specs.declared.answer.Traced.{Traced}
+use Rattle.trace.specs.Ending.{Ending}
+use Rattle.trace.specs.Ending as ending
+use Rattle.trace.specs.Ending.{Traced}
 use Rattle.suntimpani.specs.Flat.{Handed}
 use Rattle.suntimpani.specs.Shown.{ShownFunction, Shown, unsound, unknown, known}
 use Rattle.suntimpani.specs.declared.flat.AnswerInC.{AnswerInC}

@@ -11,13 +11,13 @@ use borrow.Author.Tests.{eqb-true, eqb-false}
 use Rattle.lookup.proofs.CoveringLaws.{by_value}
 use Rattle.caller.specs.Numbers.{step_number}
 use Rattle.caller.specs.declared.registers.Registers.{Registers}
-use Rattle.caller.specs.declared.registers.Step.{Step}
-use Rattle.caller.specs.declared.registers.Step.TheVariants as stepped
+use Rattle.caller.specs.Step.{Step}
+use Rattle.caller.specs.Step as stepped
 use Rattle.trace.specs.Cases.{no_frame, Follows, NotOutermost, Ends, WalkTo, WalkCase}
 use Rattle.trace.specs.Frames.{frame_of}
 use Rattle.trace.specs.Computed.Trace.{Walk, ended, with_frame, walk_of}
-use Rattle.trace.specs.declared.answer.Ending.{Ending}
-use Rattle.trace.specs.declared.answer.Ending.TheVariants.{Outermost, Full, Refused, Shut, Unsound}
+use Rattle.trace.specs.Ending.{Ending}
+use Rattle.trace.specs.Ending.{Outermost, Full, Refused, Shut, Unsound}
 use Rattle.trace.specs.declared.answer.Frame.{Frame}
 use Rattle.trace.proofs.WalkLaws.{walk_full, walk_no_caller, walk_outermost, walk_on}
 

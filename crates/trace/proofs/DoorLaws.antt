@@ -26,7 +26,7 @@ use Rattle.trace.specs.Cases.{LimitAbove, TooFewWords, AtDoor, DoorOpen}
 use Rattle.trace.specs.Frames.{in_force, with_mark, all_words, over, traced_as}
 use Rattle.trace.specs.Numbers.{number_of_trace_cause}
 use Rattle.trace.specs.Computed.Trace.{ended, checked_walk, door_tests, door_fault, after_door, walk_after, walk_in, traced, trace_of}
-use Rattle.trace.specs.declared.answer.Ending.TheVariants.{Shut, Unsound}
+use Rattle.trace.specs.Ending.{Shut, Unsound}
 
 -- ---- the limit in force
 

@@ -23,15 +23,15 @@ use Rattle.caller.specs.Cases.{Rule41, OnRefusal, CallerCase}
 use Rattle.caller.specs.Frame.{cfa_of_sp}
 use Rattle.caller.specs.Numbers.{Refusal, number_of_refusal, number_of_step_cause}
 use Rattle.caller.specs.declared.registers.Registers.{Registers}
-use Rattle.caller.specs.declared.registers.Step.{Step}
+use Rattle.caller.specs.Step.{Step}
 use Rattle.caller.specs.declared.registers.Process.{Process}
 use Rattle.caller.proofs.Exactly.{cfa_of_caller}
 use Rattle.trace.specs.Cases.{LimitAbove, TooFewWords, AtDoor, DoorOpen, no_frame, Follows, EndsOutermost, EndsFull, EndsRefused, WalkMade, OnTrace, Case}
 use Rattle.trace.specs.Frames.{TraceReply, in_force, frame_of, with_mark, all_words, over, traced_as}
 use Rattle.trace.specs.Numbers.{TraceCause, window, limit_above, too_few_words, unsound, refused, outermost, full, number_of_trace_cause, ending_number, ending_indexes}
 use Rattle.trace.specs.Computed.Trace.{Walk, walk_of, checked_walk, door_tests, door_fault, walk_after, walk_in, traced, trace_of}
-use Rattle.trace.specs.declared.answer.Ending.{Ending}
-use Rattle.trace.specs.declared.answer.Ending.TheVariants.{Outermost, Full, Refused, Shut, Unsound}
+use Rattle.trace.specs.Ending.{Ending}
+use Rattle.trace.specs.Ending.{Outermost, Full, Refused, Shut, Unsound}
 use Rattle.trace.specs.declared.answer.Frame.{Frame}
 use Rattle.trace.proofs.BufferLaws.{over_length, over_first, over_after, over_kept, all_length, all_at}
 use Rattle.trace.proofs.DoorLaws.{in_force_small, in_force_above, not_open}

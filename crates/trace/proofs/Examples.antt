@@ -20,15 +20,15 @@ use Rattle.accept.specs.Computed.Checks.{first_bad, verdict}
 use Rattle.accept.specs.Fault.{Fault}
 use Rattle.caller.specs.Computed.Caller.{from_row}
 use Rattle.caller.specs.declared.registers.Registers.{Registers}
-use Rattle.caller.specs.declared.registers.Step.{Step}
-use Rattle.caller.specs.declared.registers.Step.TheVariants as stepped
+use Rattle.caller.specs.Step.{Step}
+use Rattle.caller.specs.Step as stepped
 use Rattle.caller.specs.declared.registers.Process.{Process}
 use Rattle.trace.specs.Cases.{no_frame, EndsOutermost, WalkMade}
 use Rattle.trace.specs.Frames.{TraceReply, in_force, frame_of, with_mark, all_words, over, traced_as}
 use Rattle.trace.specs.Numbers.{number_of_trace_cause, ending_number}
 use Rattle.trace.specs.Computed.Trace.{Walk, ended, with_frame, unless_outermost, onward, walk_of, door_fault, after_door, walk_after, traced, trace_of}
 use Rattle.trace.specs.Inner.Opened.{trace_opened}
-use Rattle.trace.specs.declared.answer.Ending.TheVariants.{Outermost, Full, Refused, Shut, Unsound}
+use Rattle.trace.specs.Ending.{Outermost, Full, Refused, Shut, Unsound}
 use Rattle.trace.specs.declared.answer.Frame.{Frame}
 use Rattle.trace.proofs.Exactly.{number_30_exactly_when}
 use Rattle.trace.proofs.TraceLaws.{step_at}

@@ -7,12 +7,12 @@ use native.Mathlib.Omega.{arith}
 use lib.ListN.{length}
 use Rattle.caller.specs.Numbers.{step_number}
 use Rattle.caller.specs.declared.registers.Registers.{Registers}
-use Rattle.caller.specs.declared.registers.Step.{Step}
-use Rattle.caller.specs.declared.registers.Step.TheVariants as stepped
+use Rattle.caller.specs.Step.{Step}
+use Rattle.caller.specs.Step as stepped
 use Rattle.trace.specs.Frames.{frame_of, words_of, traced_as}
 use Rattle.trace.specs.Computed.Trace.{ended, walk_of, traced}
 use Rattle.trace.specs.Inner.Writing.{next_from, put}
-use Rattle.trace.specs.declared.answer.Ending.TheVariants.{Outermost, Full, Refused}
+use Rattle.trace.specs.Ending.{Outermost, Full, Refused}
 use Rattle.trace.proofs.BufferLaws.{put_length}
 use Rattle.trace.proofs.WalkLaws.{traced_from, begins, ends, writes_next, walk_no_caller, walk_outermost, walk_on, walk_full}
 

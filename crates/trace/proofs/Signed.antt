@@ -34,8 +34,8 @@ use Rattle.trace.specs.Cases.{Follows, EndsOutermost, WalkMade, Case}
 use Rattle.trace.specs.Frames.{TraceReply, in_force, frame_of, with_mark, traced_as}
 use Rattle.trace.specs.Numbers.{number_of_trace_cause, ending_number}
 use Rattle.trace.specs.Computed.Trace.{Walk, checked_walk, door_tests, door_fault, after_door, walk_after, walk_in, traced, trace_of}
-use Rattle.trace.specs.declared.answer.Ending.{Ending}
-use Rattle.trace.specs.declared.answer.Ending.TheVariants.{Outermost, Full, Refused, Shut, Unsound}
+use Rattle.trace.specs.Ending.{Ending}
+use Rattle.trace.specs.Ending.{Outermost, Full, Refused, Shut, Unsound}
 use Rattle.trace.specs.declared.answer.Frame.{Frame}
 use Rattle.trace.proofs.Asked.{asked_later}
 use Rattle.trace.proofs.DoorLaws.{door_window}

@@ -17,16 +17,16 @@ use Rattle.caller.specs.Cases.{WindowFits, OnRefusal, CallerCase}
 use Rattle.caller.specs.Numbers.{Refusal, number_of_refusal, number_of_step_cause, step_number}
 use Rattle.caller.specs.Computed.Caller.{step_of}
 use Rattle.caller.specs.declared.registers.Registers.{Registers}
-use Rattle.caller.specs.declared.registers.Step.{Step}
-use Rattle.caller.specs.declared.registers.Step.TheVariants as stepped
+use Rattle.caller.specs.Step.{Step}
+use Rattle.caller.specs.Step as stepped
 use Rattle.caller.specs.declared.registers.Process.{Process}
 use Rattle.caller.proofs.Exactly.{checked_caller, checked_refused, refused_checked}
 use Rattle.trace.specs.Cases.{AtDoor, DoorOpen, Follows, EndsRefused, Ends, WalkTo, StepRefuses, WalkMade, WalkEnded, OnTrace, Case}
 use Rattle.trace.specs.Frames.{in_force, with_mark}
 use Rattle.trace.specs.Numbers.{TraceCause, window, limit_above, too_few_words, unsound, refused, outermost, full, number_of_trace_cause, ending_number}
 use Rattle.trace.specs.Computed.Trace.{Walk, ended, walk_of, checked_walk, walk_in}
-use Rattle.trace.specs.declared.answer.Ending.{Ending}
-use Rattle.trace.specs.declared.answer.Ending.TheVariants.{Outermost, Full, Refused, Shut, Unsound}
+use Rattle.trace.specs.Ending.{Ending}
+use Rattle.trace.specs.Ending.{Outermost, Full, Refused, Shut, Unsound}
 use Rattle.trace.specs.declared.answer.Frame.{Frame}
 use Rattle.trace.proofs.CaseLaws.{Yielding, Refusing, none_follows, case_within, walk_case, case_walk, walk_through, ends_through}
 use Rattle.trace.proofs.DoorLaws.{shut_walk, unsound_walk, open_walk, Way, shut, unsound_way, sound, way}

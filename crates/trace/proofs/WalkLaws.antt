@@ -10,13 +10,13 @@ use lib.ListN.{length}
 use borrow.Author.Tests.{eq-eqb, ne_eqb}
 use Rattle.caller.specs.Numbers.{step_number}
 use Rattle.caller.specs.declared.registers.Registers.{Registers}
-use Rattle.caller.specs.declared.registers.Step.{Step}
-use Rattle.caller.specs.declared.registers.Step.TheVariants as stepped
+use Rattle.caller.specs.Step.{Step}
+use Rattle.caller.specs.Step as stepped
 use Rattle.trace.specs.Frames.{TraceReply, frame_of, words_of, all_words, traced_as}
 use Rattle.trace.specs.Computed.Trace.{Walk, ended, with_frame, unless_outermost, onward, walk_of, traced}
 use Rattle.trace.specs.Inner.Writing.{put}
-use Rattle.trace.specs.declared.answer.Ending.{Ending}
-use Rattle.trace.specs.declared.answer.Ending.TheVariants.{Outermost, Full, Refused}
+use Rattle.trace.specs.Ending.{Ending}
+use Rattle.trace.specs.Ending.{Outermost, Full, Refused}
 use Rattle.trace.specs.declared.answer.Frame.{Frame}
 use Rattle.trace.proofs.BufferLaws.{put_first, put_none, put_more}
 

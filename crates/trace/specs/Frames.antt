@@ -4,7 +4,7 @@ use Rattle.std.specs.Prelude.{ℕ, true, false, List, [], ◌∷◌, ◌++◌, e
 use Rattle.caller.specs.Frame.{cfa_of_sp}
 use Rattle.caller.specs.declared.registers.Registers.{Registers}
 use Rattle.trace.specs.declared.answer.Frame.{Frame}
-use Rattle.trace.specs.declared.answer.Traced.{Traced}
+use Rattle.trace.specs.Ending.{Traced}
 
 -- request 06, "Limit 0 should mean 128", where document 01 had 64; "otherwise 1 to 256": the limit in force
 unfoldable pub in_force : ℕ → ℕ

@@ -5,8 +5,8 @@ use Rattle.accept.specs.Given.{number_of_rule}
 use Rattle.accept.specs.declared.verdict.Rule.{Rule}
 use Rattle.caller.specs.Numbers as step
 use Rattle.caller.specs.Numbers.{Refusal, number_of_refusal, number_of_step_cause}
-use Rattle.trace.specs.declared.answer.Ending.{Ending}
-use Rattle.trace.specs.declared.answer.Ending.TheVariants.{Outermost, Full, Refused, Shut, Unsound}
+use Rattle.trace.specs.Ending.{Ending}
+use Rattle.trace.specs.Ending.{Outermost, Full, Refused, Shut, Unsound}
 
 -- ---- causes
 

@@ -1,10 +1,11 @@
 // What a trace answers, and the frames that it writes.
 ghost use Rattle.std.specs.Prelude.{◌≡◌, ◌+◌, ◌≤◌, length};
-ghost use Rattle.caller.specs.Numbers.{step_number};
 ghost use Rattle.trace.specs.Inner.Writing.{put};
 ghost use Rattle.trace.specs.Frames.{frame_of, words_of};
+ghost use Rattle.trace.specs.Told.{door_number};
 
-use caller::registers::{Registers, Step, cfa_of_sp};
+use accept::verdict::Refusal;
+use caller::registers::{Registers, StepCause, cfa_of_sp};
 
 // One frame: the three words that are written of it.
 #[derive(Clone, Copy)]
@@ -14,7 +15,7 @@ pub struct Frame {
     pub fp: u64,
 }
 
-// Why a trace ended. Each case carries what document 01 says that it carries.
+// Why a walk ended.
 #[derive(Clone, Copy)]
 pub enum Ending {
     // 30: the last frame's RA is 0.
@@ -22,11 +23,7 @@ pub enum Ending {
     // 31: the limit is full.
     Full,
     // 21 to 28: the next step is refused.
-    Refused(u64),
-    // 41 to 43: the trace is refused at its door.
-    Shut(u64),
-    // 1 to 15: the section breaks a rule, at the entry with this index.
-    Unsound { number: u64, index: u64 },
+    Refused(StepCause),
 }
 
 // The ending, and how many frames were written.
@@ -34,6 +31,38 @@ pub enum Ending {
 pub struct Traced {
     pub ending: Ending,
     pub frames: u64,
+}
+
+// What is tried before anything else.
+#[derive(Clone, Copy)]
+pub enum DoorFault {
+    // 41: the stack window ends past the last address.
+    Window,
+    // 42: the limit is above the highest.
+    Limit,
+    // 43: the buffer has too few words for the limit.
+    Words,
+}
+
+// Why there is no walk: nothing is written.
+#[derive(Clone, Copy)]
+pub enum TraceRefusal {
+    // 41 to 43.
+    Shut(DoorFault),
+    // 1 to 15: the section breaks a rule.
+    Unsound(Refusal),
+}
+
+impl DoorFault {
+    pub fn number(self) -> u64
+        ensures { result ≡ door_number self }
+    {
+        match self {
+            DoorFault::Window => 41,
+            DoorFault::Limit => 42,
+            DoorFault::Words => 43,
+        }
+    }
 }
 
 // The frame of a step that yields these registers.
@@ -44,17 +73,6 @@ pub fn frame_of(caller: Registers) -> Frame
         cfa: cfa_of_sp(caller.sp),
         ra: caller.pc,
         fp: caller.fp,
-    }
-}
-
-// The number that a step is refused with.
-pub fn number_of(step: Step) -> u64
-    ensures { result ≡ step_number step }
-{
-    match step {
-        Step::Caller(caller) => 0,
-        Step::Unsound { old, number, index } => number,
-        Step::Refused { old, number } => number,
     }
 }
 

@@ -3,12 +3,12 @@ ghost use Rattle.std.specs.Prelude.{◌≡◌, ◌*◌, ◌≤◌, length};
 ghost use Rattle.lookup.specs.Inner.Requires.{AcceptedOf};
 ghost use Rattle.trace.specs.Inner.Writing.{next_from};
 ghost use Rattle.trace.specs.Frames.{in_force, with_mark, traced_as};
+ghost use Rattle.trace.specs.Told.{door_told, traced_told, trace_told};
 ghost use Rattle.trace.specs.Computed.Trace.{door_fault, checked_walk, traced, trace_of};
 
-use crate::answer::{Ending, Traced, frame_of, number_of, write_frame};
+use crate::answer::{DoorFault, Ending, TraceRefusal, Traced, frame_of, write_frame};
 use accept::section_check::check;
-use accept::verdict::{Fault, Verdict};
-use caller::registers::{Process, Registers, Step};
+use caller::registers::{Process, Registers};
 use numbers::address::window_fits;
 use section::header::{Layout, layout_at};
 
@@ -54,20 +54,20 @@ fn next_from(caller: Registers, last: Registers) -> Registers
 }
 
 // 41, 42, 43: what is tried before anything else.
-fn door_fault(stack: &[u8], process: Process, limit: u64, words: u64) -> Fault
-    ensures { result ≡ door_fault stack.now process limit words }
+fn door_fault(stack: &[u8], process: Process, limit: u64, words: u64) -> Result<(), DoorFault>
+    ensures { door_told result ≡ door_fault stack.now process limit words }
 {
     if !window_fits(stack, process.stack) {
-        return Fault::Breaks(41);
+        return Err(DoorFault::Window);
     }
     if MOST < limit {
-        return Fault::Breaks(42);
+        return Err(DoorFault::Limit);
     }
     let frames = in_force(limit);
     if words < 3 * frames {
-        return Fault::Breaks(43);
+        return Err(DoorFault::Words);
     }
-    Fault::Sound
+    Ok(())
 }
 
 // The walk on a section that was checked, and as many frames as the limit allows.
@@ -81,33 +81,32 @@ fn walk(
     buffer: &mut [u64],
 ) -> Traced
     requires { AcceptedOf section.now layout × (limit ≤ 256) × (3 * limit ≤ length buffer.old) }
-    ensures { traced_as result buffer.new ≡ traced (checked_walk section.now stack.now process limit registers) buffer.old }
+    ensures { traced_as (traced_told result) buffer.new ≡ traced (checked_walk section.now stack.now process limit registers) buffer.old }
 {
     let mut current = registers;
-    let mut frames = 0;
-    let mut left: u64 = limit;
-    while 0 < left {
-        let step = current.step_checked(section, layout, stack, process);
-        let Step::Caller(caller) = step else {
-            return Traced {
-                ending: Ending::Refused(number_of(step)),
-                frames: frames,
-            };
-        };
-        write_frame(buffer, 3 * frames as usize, frame_of(caller));
-        frames = frames + 1;
-        if caller.pc == 0 {
-            return Traced {
-                ending: Ending::Outermost,
-                frames: frames,
-            };
+    for frames in 0..limit {
+        match current.step_checked(section, layout, stack, process) {
+            Err(refusal) => {
+                return Traced {
+                    ending: Ending::Refused(refusal.cause),
+                    frames: frames,
+                };
+            }
+            Ok(caller) => {
+                write_frame(buffer, 3 * frames as usize, frame_of(caller));
+                if caller.pc == 0 {
+                    return Traced {
+                        ending: Ending::Outermost,
+                        frames: frames + 1,
+                    };
+                }
+                current = next_from(caller, current);
+            }
         }
-        current = next_from(caller, current);
-        left = left - 1;
     }
     Traced {
         ending: Ending::Full,
-        frames: frames,
+        frames: limit,
     }
 }
 
@@ -119,31 +118,22 @@ pub fn trace(
     registers: Registers,
     limit: u64,
     buffer: &mut [u64],
-) -> Traced
-    ensures { traced_as result buffer.new ≡ trace_of section.now stack.now process registers limit buffer.old }
+) -> Result<Traced, TraceRefusal>
+    ensures { traced_as (trace_told result) buffer.new ≡ trace_of section.now stack.now process registers limit buffer.old }
 {
-    match door_fault(stack, process, limit, buffer.len() as u64) {
-        Fault::Breaks(number) => Traced {
-            ending: Ending::Shut(number),
-            frames: 0,
-        },
-        Fault::Sound => match check(section) {
-            Verdict::Refused { number, index } => Traced {
-                ending: Ending::Unsound {
-                    number: number,
-                    index: index,
-                },
-                frames: 0,
-            },
-            Verdict::Accepted => walk(
-                section,
-                layout_at(section),
-                stack,
-                process,
-                with_mark(registers),
-                in_force(limit),
-                buffer,
-            ),
-        },
+    if let Err(fault) = door_fault(stack, process, limit, buffer.len() as u64) {
+        return Err(TraceRefusal::Shut(fault));
     }
+    if let Err(refusal) = check(section) {
+        return Err(TraceRefusal::Unsound(refusal));
+    }
+    Ok(walk(
+        section,
+        layout_at(section),
+        stack,
+        process,
+        with_mark(registers),
+        in_force(limit),
+        buffer,
+    ))
 }

@@ -9,9 +9,9 @@ use Rattle.lookup.specs.Finding.{Finding, finding_of}
 use Rattle.lookup.specs.Halving.{empty_function, compared}
 use Rattle.lookup.specs.Computed.Covering.{covering, cover_of}
 use Rattle.lookup.specs.Computed.Rows.{row_for}
-use Rattle.lookup.specs.declared.answer.Answer.{Answer}
-use Rattle.lookup.specs.declared.answer.Outcome.{Outcome}
-use Rattle.lookup.specs.declared.answer.Outcome.TheVariants.{Found, Unsound, NoFunction, Dispute, NoRow}
+use Rattle.lookup.specs.Outcome.{Answer}
+use Rattle.lookup.specs.Outcome.{Outcome}
+use Rattle.lookup.specs.Outcome.{Found, Unsound, NoFunction, Dispute, NoRow}
 use Rattle.lookup.specs.declared.rows.Hit.{Hit}
 use Rattle.lookup.specs.declared.search.Cover.{Cover}
 use Rattle.lookup.specs.declared.search.Cover.TheVariants.{Nobody, One, Two}

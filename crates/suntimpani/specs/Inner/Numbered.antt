@@ -4,14 +4,14 @@ use Rattle.accept.specs.Verdict.{Verdict}
 use Rattle.accept.specs.Verdict as verdict
 use Rattle.listing.specs.declared.function.Described.{Described}
 use Rattle.listing.specs.declared.function.Described.TheVariants as described
-use Rattle.lookup.specs.declared.answer.Outcome.{Outcome}
-use Rattle.lookup.specs.declared.answer.Outcome.TheVariants as outcome
+use Rattle.lookup.specs.Outcome.{Outcome}
+use Rattle.lookup.specs.Outcome as outcome
 use Rattle.ask.specs.AskAnswer.{AskAnswer}
 use Rattle.ask.specs.AskAnswer as ask
-use Rattle.caller.specs.declared.registers.Step.{Step}
-use Rattle.caller.specs.declared.registers.Step.TheVariants as step
-use Rattle.trace.specs.declared.answer.Ending.{Ending}
-use Rattle.trace.specs.declared.answer.Ending.TheVariants as ending
+use Rattle.caller.specs.Step.{Step}
+use Rattle.caller.specs.Step as step
+use Rattle.trace.specs.Ending.{Ending}
+use Rattle.trace.specs.Ending as ending
 use Rattle.suntimpani.specs.Read.{is_doors}
 
 -- "1 to 15"
