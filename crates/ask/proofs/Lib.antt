@@ -7,4 +7,5 @@ mod Examples
 pub mod Linked
 pub mod ReadLaws
 pub mod SoughtLaws
+pub mod ToldLaws
 pub mod WalkLaws

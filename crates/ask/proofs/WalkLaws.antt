@@ -7,6 +7,7 @@ use Prim.Native.Nat.{ℕ, ◌+◌, ◌-◌, ◌≤◌, ◌<◌}
 use native.Mathlib.Omega.{arith}
 use lib.Dec.{leb}
 use borrow.Author.Tests.{leb-true, leb-false}
+use Rattle.std.specs.Prelude.{Ok, Err}
 use Rattle.numbers.specs.declared.field.Order.{Order}
 use Rattle.section.specs.Row.{row_place}
 use Rattle.section.specs.declared.shape.Shape.{Shape}
@@ -17,8 +18,7 @@ use Rattle.lookup.specs.declared.rows.Stop.{Stop}
 use Rattle.lookup.specs.Inner.Search.{stop_of}
 use Rattle.lookup.proofs.CoveringLaws.{by_value}
 use Rattle.lookup.proofs.LastRowLaws.{halts_alone}
-use Rattle.ask.specs.Inner.Parts.{stop_after, walk_by, walk_of}
-use Rattle.ask.specs.declared.rows.Walk.TheVariants.{Faulty, Whole}
+use Rattle.ask.specs.Inner.Parts.{unless_broken, stop_after, walk_of}
 
 -- of the first k rows, those before `rows` start at or below o and the others above it; the next one may start at `low`
 pub record StopSoFar (area : List ℕ) (order : Order) (code first o low k : ℕ) (stop : Stop) : Type 0 where
@@ -92,11 +92,11 @@ module _ (area : List ℕ) (order : Order) (code first o : ℕ) where
 -- ---- what the walk answers
 
 module _ (area : List ℕ) (shape : Shape) (code first count o : ℕ) where
-  pub walk_faulty : {number : ℕ} → Breaks number ≡ rows_fault area shape code first count → Faulty ≡ walk_of area shape code first count o
-  unfolding walk_of walk_by
+  pub walk_faulty : {number : ℕ} → Breaks number ≡ rows_fault area shape code first count → Err number ≡ walk_of area shape code first count o
+  unfolding walk_of unless_broken
   walk_faulty is = rw (← is)
 
   pub walk_whole : {stop : Stop} → Sound ≡ rows_fault area shape code first count → stop ≡ stop_of area shape.order code first count o
-      → Whole stop ≡ walk_of area shape code first count o
-  unfolding walk_of walk_by
+      → Ok stop ≡ walk_of area shape code first count o
+  unfolding walk_of unless_broken
   walk_whole is stops = rw (← is, stops)

@@ -9,9 +9,13 @@ use Rattle.accept.specs.declared.verdict.Rule.{Rule}
 use Rattle.accept.specs.Rules.{row_count, Rule9, Rule10, Rule11First, HeaderObeys, RowObeys}
 use Rattle.lookup.specs.Cases.{Covers, OffsetIs, LastAtMost, NoneAtMost, row_of_function}
 use Rattle.lookup.specs.Halving.{landing}
+use Rattle.ask.specs.AskAnswer.{AskAnswer, Found, Unsound, Unsorted, NoFunction, NoRow, Damaged}
 use Rattle.ask.specs.Numbers.{Unanswered, no_function, no_row, damaged, unsorted, AskCause, unsound, unanswered}
+<<<<<<< HEAD
 use Rattle.ask.specs.AskAnswer.{AskAnswer}
 use Rattle.ask.specs.AskAnswer.{Found, Unsound, Unsorted, NoFunction, NoRow, Damaged}
+=======
+>>>>>>> 64d19c9c4b7b3a5e377d74d8157b43d89aadd5d3
 
 -- ---- the section
 

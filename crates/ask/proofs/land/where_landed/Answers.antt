@@ -11,9 +11,13 @@ use Rattle.section.specs.Meaning.{function_start, function_in}
 use Rattle.lookup.specs.Computed.Covering.{covers}
 use Rattle.lookup.specs.Inner.Search.{past_in}
 use Rattle.lookup.proofs.CoveringLaws.{by_value}
+use Rattle.ask.specs.AskAnswer.{NoFunction}
 use Rattle.ask.specs.Computed.Ask.{where_landed}
 use Rattle.ask.specs.Inner.Parts.{past_function}
+<<<<<<< HEAD
 use Rattle.ask.specs.AskAnswer.{NoFunction}
+=======
+>>>>>>> 64d19c9c4b7b3a5e377d74d8157b43d89aadd5d3
 use Rattle.ask.proofs.SoughtLaws.{past_answer}
 use Rattle.ask.proofs.land.where_landed.Goals as goal
 
@@ -38,23 +42,10 @@ module _ (s : List ℕ) (d : ℤ) (compared low : ℕ) (some : 0 < low) where
       (λ set. absurd (let other : Some _ ≡ None = rw (set, past_in) at is in let z : ◌≡◌ {A = ℕ} 0 1 = cc in omega arith))
       (λ unset. sym (before_low ∙ (rw (unset, where_landed))))
 
-pub returns-then-low-eq0 : goal.returns-then-low-eq0
-unfolding where_landed
-returns-then-low-eq0 c = rw c.if-low-eq0.true
-
-pub past_in-requires : goal.past_in-requires
-past_in-requires c =
-    (c.requires.0, omega (arith, c.requires.1, c.if-low-eq0.false))
-
-pub in_function-requires : goal.in_function-requires
-in_function-requires c =
-    (c.requires.0, omega (arith, c.requires.1, c.if-low-eq0.false))
-
 pub returns-in-None : goal.returns-in-None
-returns-in-None c =
-    beside _ _ _ _ (omega (arith, c.if-low-eq0.false)) (sym c.past_in.ensures ∙ c.in-None.is)
+returns-in-None c = beside _ _ _ _ (omega (arith, c.if-low-eq0.false)) (sym c.in-None.ensures)
 
 pub returns-in-Some : goal.returns-in-Some
 returns-in-Some c =
     c.in_function.ensures
-    ∙ inside _ _ _ _ (omega (arith, c.if-low-eq0.false)) _ (sym c.past_in.ensures ∙ c.in-Some.is)
+    ∙ inside _ _ _ _ (omega (arith, c.if-low-eq0.false)) _ (sym c.in-Some.ensures)
