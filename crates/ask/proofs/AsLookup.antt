@@ -33,10 +33,6 @@ use Rattle.ask.specs.AskAnswer.{NoFunction}
 use Rattle.ask.specs.Cases.{CanBeAsked, LandsIn, compared_in}
 use Rattle.ask.specs.Numbers.{number_of_unanswered, ask_number, ask_indexes, ask_row, ask_compared, SameAnswer}
 use Rattle.ask.specs.Computed.Ask.{with_row, ask_of}
-<<<<<<< HEAD
-use Rattle.ask.specs.AskAnswer.{NoFunction}
-=======
->>>>>>> 64d19c9c4b7b3a5e377d74d8157b43d89aadd5d3
 use Rattle.ask.proofs.CaseLaws.{landed_there, set_covers, own_rules, ask_nowhere, ask_beside, ask_rows}
 
 module _ (s : List ℕ) (accepted : verdict s ≡ Accepted) (sorted : (layout_of s).sorted ≡ true) (address pc : ℕ) where

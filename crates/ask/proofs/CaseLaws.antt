@@ -31,11 +31,6 @@ use Rattle.lookup.proofs.OffsetWithinLaws.{offset_there, offset_unique}
 use Rattle.ask.specs.AskAnswer.{AskAnswer, Found, Unsound, Unsorted, NoFunction, NoRow, Damaged}
 use Rattle.ask.specs.Cases.{CanBeAsked, LandsOn, LandsIn, OwnRulesHold, compared_in, AskCase}
 use Rattle.ask.specs.Computed.Ask.{ask_after, with_row, checked_row, in_function, where_landed, ask_in, ask_of}
-<<<<<<< HEAD
-use Rattle.ask.specs.AskAnswer.{AskAnswer}
-use Rattle.ask.specs.AskAnswer.{Found, Unsound, Unsorted, NoFunction, NoRow, Damaged}
-=======
->>>>>>> 64d19c9c4b7b3a5e377d74d8157b43d89aadd5d3
 use Rattle.ask.proofs.ComparedLaws.{landing_within}
 
 -- ---- the function landed on

@@ -21,11 +21,6 @@ use Rattle.ask.specs.AskAnswer.{AskAnswer, Found, Unsound, Unsorted, NoFunction,
 use Rattle.ask.specs.Cases.{NotSorted, LandsOn, OwnRulesHold, RowCase, NoRowCase, DamagedCase, NoFunctionCase, AskCase, OnAsk}
 use Rattle.ask.specs.Numbers.{Unanswered, no_function, no_row, damaged, unsorted, number_of_unanswered, AskCause, unsound, unanswered, number_of_ask_cause, ask_number}
 use Rattle.ask.specs.Computed.Ask.{ask_of}
-<<<<<<< HEAD
-use Rattle.ask.specs.AskAnswer.{AskAnswer}
-use Rattle.ask.specs.AskAnswer.{Found, Unsound, Unsorted, NoFunction, NoRow, Damaged}
-=======
->>>>>>> 64d19c9c4b7b3a5e377d74d8157b43d89aadd5d3
 use Rattle.ask.proofs.CaseLaws.{case_given, some_case}
 
 -- ---- no two causes have one number

@@ -18,11 +18,6 @@ use Rattle.ask.specs.AskAnswer.{AskAnswer, Found, Unsound, Unsorted, NoFunction,
 use Rattle.ask.specs.Numbers.{ask_number}
 use Rattle.ask.specs.Computed.Ask.{with_row, checked_row, in_function, ask_of}
 use Rattle.ask.specs.Inner.Opened.{ask_opened}
-<<<<<<< HEAD
-use Rattle.ask.specs.AskAnswer.{AskAnswer}
-use Rattle.ask.specs.AskAnswer.{Found, Unsound, Unsorted, NoFunction, NoRow, Damaged}
-=======
->>>>>>> 64d19c9c4b7b3a5e377d74d8157b43d89aadd5d3
 
 -- ---- "Loaded at 0x400000": in S, which is accepted and sorted, as a lookup
 

@@ -29,10 +29,6 @@ use Rattle.ask.specs.Cases.{CanBeAsked}
 use Rattle.ask.specs.Compared.{entries_compared}
 use Rattle.ask.specs.ReadBy.{Compared, ReadAt, of_header, of_entry, of_row, ReadBy, InLandedRows, AtMostBesideRows}
 use Rattle.ask.specs.Computed.Ask.{ask_of}
-<<<<<<< HEAD
-use Rattle.ask.specs.AskAnswer.{NoFunction}
-=======
->>>>>>> 64d19c9c4b7b3a5e377d74d8157b43d89aadd5d3
 use Rattle.ask.proofs.ComparedLaws.{as_many_compared, compared_within}
 use Rattle.ask.proofs.Exactly.{no_function_means}
 

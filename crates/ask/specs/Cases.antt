@@ -11,11 +11,6 @@ use Rattle.lookup.specs.Cases.{Covers, OffsetIs, LastAtMost, NoneAtMost, row_of_
 use Rattle.lookup.specs.Halving.{landing}
 use Rattle.ask.specs.AskAnswer.{AskAnswer, Found, Unsound, Unsorted, NoFunction, NoRow, Damaged}
 use Rattle.ask.specs.Numbers.{Unanswered, no_function, no_row, damaged, unsorted, AskCause, unsound, unanswered}
-<<<<<<< HEAD
-use Rattle.ask.specs.AskAnswer.{AskAnswer}
-use Rattle.ask.specs.AskAnswer.{Found, Unsound, Unsorted, NoFunction, NoRow, Damaged}
-=======
->>>>>>> 64d19c9c4b7b3a5e377d74d8157b43d89aadd5d3
 
 -- ---- the section
 

@@ -7,12 +7,7 @@ use Rattle.accept.specs.declared.verdict.Rule.{Rule}
 use Rattle.lookup.specs.Numbers as lookup
 use Rattle.lookup.specs.Numbers.{number_of_unfound, outcome_number, outcome_indexes, outcome_row}
 use Rattle.lookup.specs.Outcome.{Answer}
-<<<<<<< HEAD
-use Rattle.ask.specs.AskAnswer.{AskAnswer}
-use Rattle.ask.specs.AskAnswer.{Found, Unsound, Unsorted, NoFunction, NoRow, Damaged}
-=======
 use Rattle.ask.specs.AskAnswer.{AskAnswer, Found, Unsound, Unsorted, NoFunction, NoRow, Damaged}
->>>>>>> 64d19c9c4b7b3a5e377d74d8157b43d89aadd5d3
 
 -- ---- causes
 

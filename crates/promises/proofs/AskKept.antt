@@ -11,10 +11,6 @@ use Rattle.lookup.specs.Outcome.{Answer}
 use Rattle.ask.specs.AskAnswer.{AskAnswer}
 use Rattle.ask.specs.Numbers.{SameAnswer}
 use Rattle.ask.specs.Computed.Ask.{ask_of}
-<<<<<<< HEAD
-use Rattle.ask.specs.AskAnswer.{AskAnswer}
-=======
->>>>>>> 64d19c9c4b7b3a5e377d74d8157b43d89aadd5d3
 use Rattle.ask.proofs.Agreement.{ask_agrees}
 use Rattle.ask.proofs.AsLookup.{ask_as_lookup}
 use Rattle.ask.proofs.Exactly.{answer_exactly_when, ask_due, ask_given, number_0_exactly_when, never_disputed, never_9_to_15, row_means, no_row_means, no_function_means}

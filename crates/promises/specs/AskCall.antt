@@ -16,11 +16,6 @@ use Rattle.ask.specs.Cases.{LandsOn, OwnRulesHold, RowCase, AskCase, OnAsk}
 use Rattle.ask.specs.Numbers.{AskCause, number_of_ask_cause, ask_number, SameAnswer}
 use Rattle.ask.specs.ReadBy.{Compared, ReadBy, AtMostBesideRows}
 use Rattle.ask.specs.Computed.Ask.{ask_of}
-<<<<<<< HEAD
-use Rattle.ask.specs.AskAnswer.{AskAnswer}
-use Rattle.ask.specs.AskAnswer.{Found, NoFunction, NoRow}
-=======
->>>>>>> 64d19c9c4b7b3a5e377d74d8157b43d89aadd5d3
 use Rattle.ask.proofs.land.ask.Kinds as ask-kinds
 use Rattle.ask.proofs.land.ask.Reads as ask-reads
 use Rattle.suntimpani.specs.Asked.{flat_asked, read_asked}

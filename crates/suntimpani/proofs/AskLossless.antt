@@ -13,11 +13,6 @@ use Rattle.ask.specs.AskAnswer as ask
 use Rattle.ask.specs.Cases.{AskCase}
 use Rattle.ask.specs.Numbers.{number_of_unanswered, ask_number, ask_indexes, ask_row, ask_compared}
 use Rattle.ask.specs.Computed.Ask.{ask_of}
-<<<<<<< HEAD
-use Rattle.ask.specs.AskAnswer.{AskAnswer}
-use Rattle.ask.specs.AskAnswer as ask
-=======
->>>>>>> 64d19c9c4b7b3a5e377d74d8157b43d89aadd5d3
 use Rattle.ask.proofs.CaseLaws.{some_case}
 use Rattle.suntimpani.specs.Asked.{flat_asked, read_asked}
 use Rattle.suntimpani.specs.Flat.{flat_row}

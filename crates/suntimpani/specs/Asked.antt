@@ -2,11 +2,6 @@
 use Rattle.std.specs.Prelude.{true, false, eqb, get_or}
 use Rattle.ask.specs.AskAnswer.{AskAnswer, Found, Unsound, Unsorted, NoFunction, NoRow, Damaged}
 use Rattle.ask.specs.Numbers.{ask_number, ask_indexes, ask_row, ask_compared}
-<<<<<<< HEAD
-use Rattle.ask.specs.AskAnswer.{AskAnswer}
-use Rattle.ask.specs.AskAnswer.{Found, Unsound, Unsorted, NoFunction, NoRow, Damaged}
-=======
->>>>>>> 64d19c9c4b7b3a5e377d74d8157b43d89aadd5d3
 use Rattle.suntimpani.specs.Flat.{empty_row, flat_row}
 use Rattle.suntimpani.specs.Read.{read_row}
 use Rattle.suntimpani.specs.declared.flat.AnswerInC.{AnswerInC}

@@ -10,12 +10,7 @@ use Rattle.lookup.specs.Halving.{landing}
 use Rattle.lookup.specs.Computed.Covering.{covers}
 use Rattle.lookup.specs.Computed.Rows.{row_for}
 use Rattle.lookup.specs.declared.rows.Hit.{Hit}
-<<<<<<< HEAD
-use Rattle.ask.specs.AskAnswer.{AskAnswer}
-use Rattle.ask.specs.AskAnswer.{Found, Unsound, Unsorted, NoFunction, NoRow, Damaged}
-=======
 use Rattle.ask.specs.AskAnswer.{AskAnswer, Found, Unsound, Unsorted, NoFunction, NoRow, Damaged}
->>>>>>> 64d19c9c4b7b3a5e377d74d8157b43d89aadd5d3
 
 -- "Header faults answer 1 to 8"
 unfoldable pub ask_after : Fault → AskAnswer → AskAnswer

@@ -11,17 +11,8 @@ use Rattle.lookup.specs.Computed.Rows.{in_block, last_row}
 use Rattle.lookup.specs.declared.rows.Hit.{Hit}
 use Rattle.lookup.specs.declared.rows.Stop.{Stop}
 use Rattle.lookup.specs.Inner.Search.{stop_of}
-<<<<<<< HEAD
-use Rattle.ask.specs.AskAnswer.{AskAnswer}
-use Rattle.ask.specs.AskAnswer.{Found, NoRow, Damaged}
-use Rattle.ask.specs.declared.rows.Sought.{Sought}
-use Rattle.ask.specs.declared.rows.Sought.TheVariants.{Broken, Missed, Hit}
-use Rattle.ask.specs.declared.rows.Walk.{Walk}
-use Rattle.ask.specs.declared.rows.Walk.TheVariants.{Faulty, Whole}
-=======
 use Rattle.ask.specs.AskAnswer.{AskAnswer, Damaged}
 use Rattle.ask.specs.Computed.Ask.{with_row}
->>>>>>> 64d19c9c4b7b3a5e377d74d8157b43d89aadd5d3
 
 -- what is found where nothing is broken, else the number of the broken rule
 unfoldable pub unless_broken : {A : Type 0} → Fault → A → Result A ℕ

@@ -14,10 +14,6 @@ use Rattle.lookup.proofs.CoveringLaws.{by_value}
 use Rattle.ask.specs.AskAnswer.{NoFunction}
 use Rattle.ask.specs.Computed.Ask.{where_landed}
 use Rattle.ask.specs.Inner.Parts.{past_function}
-<<<<<<< HEAD
-use Rattle.ask.specs.AskAnswer.{NoFunction}
-=======
->>>>>>> 64d19c9c4b7b3a5e377d74d8157b43d89aadd5d3
 use Rattle.ask.proofs.SoughtLaws.{past_answer}
 use Rattle.ask.proofs.land.where_landed.Goals as goal
 
