@@ -17,18 +17,20 @@ fn raised_by(base: u64, by: u64) -> Sum
 {
     let room = u64::MAX - base;
     if by <= room {
-        return Sum::At(base + by);
+        Sum::At(base + by)
+    } else {
+        Sum::Above(by - room)
     }
-    Sum::Above(by - room)
 }
 
 fn lowered_by(base: u64, by: u64) -> Sum
     ensures { result ≡ sum_down base by }
 {
     if by <= base {
-        return Sum::At(base - by);
+        Sum::At(base - by)
+    } else {
+        Sum::Below(by - base)
     }
-    Sum::Below(by - base)
 }
 
 // Never wrapped.

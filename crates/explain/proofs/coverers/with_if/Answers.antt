@@ -7,6 +7,6 @@ pub returns-then-covers : goal.returns-then-covers
 unfolding with_if
 returns-then-covers c = rw c.if-covers.true c.with_index.ensures
 
-pub returns : goal.returns
+pub returns-else-covers : goal.returns-else-covers
 unfolding with_if
-returns c = rw c.if-covers.false
+returns-else-covers c = rw c.if-covers.false

@@ -3,10 +3,10 @@
 use Rattle.explain.specs.Computed.Lookup.{by_scan}
 use Rattle.explain.proofs.looked.by_scan.Goals as goal
 
-pub returns-in-Missed : goal.returns-in-Missed
+pub returns-in-None : goal.returns-in-None
 unfolding by_scan
-returns-in-Missed c = rw c.in-Missed.is (rw c.start_in.ensures)
+returns-in-None c = rw c.in-None.is (rw c.start_in.ensures)
 
-pub returns-in-Hit : goal.returns-in-Hit
+pub returns-in-Some : goal.returns-in-Some
 unfolding by_scan
-returns-in-Hit c = rw c.in-Hit.is (rw c.start_in-in-Hit.ensures)
+returns-in-Some c = rw c.in-Some.is (rw c.start_in-in-Some.ensures)

@@ -3,10 +3,10 @@
 use Rattle.explain.specs.Computed.Step.{by_reason, by_looked}
 use Rattle.explain.proofs.stepped.by_looked.Goals as goal
 
-pub returns-in-NotFound : goal.returns-in-NotFound
+pub returns-in-Err : goal.returns-in-Err
 unfolding by_looked by_reason
-returns-in-NotFound c = rw c.in-NotFound.is
+returns-in-Err c = rw c.in-Err.is
 
-pub returns-in-Found : goal.returns-in-Found
+pub returns-in-Ok : goal.returns-in-Ok
 unfolding by_looked by_reason
-returns-in-Found c = rw c.in-Found.is (rw c.explain_row.ensures)
+returns-in-Ok c = rw c.in-Ok.is (rw c.explain_row.ensures)

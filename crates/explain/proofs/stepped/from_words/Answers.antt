@@ -3,10 +3,10 @@
 use Rattle.explain.specs.Computed.Step.{from_words}
 use Rattle.explain.proofs.stepped.from_words.Goals as goal
 
-pub returns-in-Missing : goal.returns-in-Missing
+pub returns-in-Err : goal.returns-in-Err
 unfolding from_words
-returns-in-Missing c = rw c.in-Missing.is c.outside.ensures
+returns-in-Err c = rw c.in-Err.is c.outside.ensures
 
-pub returns-in-Is : goal.returns-in-Is
+pub returns-in-Ok : goal.returns-in-Ok
 unfolding from_words
-returns-in-Is c = rw c.in-Is.is c.with_ra.ensures
+returns-in-Ok c = rw c.in-Ok.is c.with_ra.ensures

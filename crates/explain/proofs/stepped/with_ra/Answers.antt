@@ -3,10 +3,10 @@
 use Rattle.explain.specs.Computed.Step.{with_ra}
 use Rattle.explain.proofs.stepped.with_ra.Goals as goal
 
-pub returns-in-Missing : goal.returns-in-Missing
+pub returns-in-Err : goal.returns-in-Err
 unfolding with_ra
-returns-in-Missing c = rw c.in-Missing.is c.outside.ensures
+returns-in-Err c = rw c.in-Err.is c.outside.ensures
 
-pub returns-in-Is : goal.returns-in-Is
+pub returns-in-Ok : goal.returns-in-Ok
 unfolding with_ra
-returns-in-Is c = rw c.in-Is.is c.caller_of.ensures
+returns-in-Ok c = rw c.in-Ok.is c.caller_of.ensures

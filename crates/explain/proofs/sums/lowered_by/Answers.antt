@@ -8,6 +8,6 @@ pub returns-then-by-base : goal.returns-then-by-base
 unfolding sum_down
 returns-then-by-base c = rw (le-leb _ _ c.if-by-base.true, sum_down)
 
-pub returns : goal.returns
+pub returns-else-by-base : goal.returns-else-by-base
 unfolding sum_down
-returns c = rw (lt-leb _ _ c.if-by-base.false, sum_down)
+returns-else-by-base c = rw (lt-leb _ _ c.if-by-base.false, sum_down)

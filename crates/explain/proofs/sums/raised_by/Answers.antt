@@ -8,6 +8,6 @@ pub returns-then-by-room : goal.returns-then-by-room
 unfolding sum_up
 returns-then-by-room c = rw (le-leb _ _ c.if-by-room.true, sum_up)
 
-pub returns : goal.returns
+pub returns-else-by-room : goal.returns-else-by-room
 unfolding sum_up
-returns c = rw (lt-leb _ _ c.if-by-room.false, sum_up)
+returns-else-by-room c = rw (lt-leb _ _ c.if-by-room.false, sum_up)
