@@ -68,8 +68,8 @@ pub fn measure_listing(section: &[u8]) -> Measured
 {
     match check(section) {
         Verdict::Refused { number, index } => Measured {
-            number: number,
-            index: index,
+            number,
+            index,
             digest: 0,
         },
         Verdict::Accepted => {

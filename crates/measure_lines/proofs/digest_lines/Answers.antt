@@ -1,14 +1,11 @@
 -- `measure_lines::digest_lines` folds the lines in one by one: the digest of the lines left, from the digest so far, is the digest of all.
 -- Assumes nothing.
 use native.Mathlib.Omega.{arith}
-use mathlib.Core.Path.{refl, ap}
+use mathlib.Core.Path.{ap}
 use lib.ListN.{length}
 use Rattle.listing.proofs.LinesLeft.{yield_line, yield_none}
 use Rattle.measure_lines.specs.Listed.{digest_lines}
 use Rattle.measure_lines.proofs.digest_lines.Goals as goal
-
-pub loop-line-init : goal.loop-line-init
-loop-line-init c = (omega arith, refl)
 
 pub returns-in-NoMore : goal.returns-in-NoMore
 unfolding digest_lines
