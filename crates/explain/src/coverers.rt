@@ -11,6 +11,7 @@ use lookup::search::past_in;
 use section::header::Layout;
 
 // Nobody, where there is no dispute.
+#[tactic(auto, unfolding(crate::specs::Computed::Coverers::no_coverers))]
 pub fn no_coverers() -> Coverers
     ensures { result ≡ no_coverers }
 {
@@ -21,6 +22,7 @@ pub fn no_coverers() -> Coverers
 }
 
 // One more that covers. It counts also where there is no room for its index.
+#[tactic(auto, unfolding(crate::specs::Computed::Coverers::with_index, crate::specs::Computed::Coverers::placed))]
 fn with_index(known: Coverers, i: u64) -> Coverers
     requires { known.count < 2 ^ 32 }
     ensures { result ≡ with_index known i }
@@ -36,6 +38,7 @@ fn with_index(known: Coverers, i: u64) -> Coverers
     next
 }
 
+#[tactic(auto, unfolding(crate::specs::Computed::Coverers::with_if))]
 fn with_if(known: Coverers, i: u64, covers: bool) -> Coverers
     requires { known.count < 2 ^ 32 }
     ensures { result ≡ with_if covers i known }

@@ -51,6 +51,7 @@ fn start_in(area: &[u8], shape: Shape, entry: Entry, k: u64) -> Option<u64>
 }
 
 // What the rows of function i come to at offset o.
+#[tactic(auto, unfolding(crate::specs::Computed::Lookup::by_scan))]
 fn by_scan(
     area: &[u8],
     shape: Shape,
@@ -100,6 +101,7 @@ fn in_function(
 }
 
 // Without a dispute, nobody stands beside.
+#[tactic(auto, unfolding(crate::specs::Computed::Lookup::alone_why))]
 fn alone(looked: Result<FoundRow, NotFound>) -> LookedWhy
     ensures { result ≡ alone_why looked }
 {
@@ -110,6 +112,7 @@ fn alone(looked: Result<FoundRow, NotFound>) -> LookedWhy
 }
 
 // 21: the nearest addresses that are covered.
+#[tactic(auto, unfolding(crate::specs::Computed::Lookup::no_function_why))]
 fn no_function(section: &[u8], layout: Layout, address: u64, pc: u64) -> NotFound
     requires { HeaderOf section.now layout }
     ensures { result ≡ no_function_why section.now (distance address pc) }

@@ -31,6 +31,7 @@ pub struct Best {
 }
 
 // The key of a function that is not empty: 0 where it does not lie on that side.
+#[tactic(auto, unfolding(crate::specs::Inner::Keys::side_key))]
 fn side_key(side: Side, start: u64, size: u32, d: u64) -> u64
     requires { start ≤ 3 * 2 ^ 32 }
     ensures { result ≡ side_key side start size d }
@@ -45,6 +46,7 @@ fn side_key(side: Side, start: u64, size: u32, d: u64) -> u64
 }
 
 // An empty function covers nothing, and is never the nearest.
+#[tactic(auto, unfolding(crate::specs::Inner::Keys::key_by))]
 fn key_of(side: Side, start: u64, size: u32, d: u64) -> u64
     requires { start ≤ 3 * 2 ^ 32 }
     ensures { result ≡ key_by side start size d }
@@ -66,6 +68,7 @@ fn key_at(section: &[u8], layout: Layout, order: Order, side: Side, i: u64, d: u
 }
 
 // A function with the same key comes too late: the lowest index stands.
+#[tactic(auto, unfolding(crate::specs::Inner::Keys::better))]
 fn better_of(best: Best, key: u64, i: u64) -> Best
     ensures { result ≡ better best key i }
 {
@@ -92,6 +95,7 @@ fn best_in(section: &[u8], layout: Layout, order: Order, side: Side, d: u64) -> 
 }
 
 // The address that a key stands for, as it is held: below, the last that the function covers; above, the first.
+#[tactic(auto, unfolding(crate::specs::Inner::Keys::held_of))]
 fn held_of(side: Side, key: u64) -> u64
     requires { (0 < key) × (key ≤ 2 ^ 34) }
     ensures value { result ≡ held_of side key }
@@ -113,6 +117,7 @@ fn lowered(held: u64) -> Offset
     }
 }
 
+#[tactic(auto, unfolding(crate::specs::Inner::Keys::nearest_of))]
 fn nearest_of(side: Side, best: Best) -> Option<Covered>
     requires { best.key ≤ 2 ^ 34 }
     ensures { result ≡ nearest_of side best }

@@ -22,6 +22,7 @@ use section::row::{Place, Row};
 use section::shape::{Shape, shape_of};
 
 // What stands at a saved place; of a word that is not wholly inside the window, the offset that leads to it.
+#[tactic(auto, unfolding(crate::specs::Computed::Step::fetched_at))]
 fn fetched_at(offset: Offset, word: Word) -> Result<u64, Offset>
     ensures { result ≡ fetched_at offset word }
 {
@@ -31,6 +32,7 @@ fn fetched_at(offset: Offset, word: Word) -> Result<u64, Offset>
     }
 }
 
+#[tactic(auto, unfolding(crate::specs::Computed::Step::fetched_of))]
 fn fetch(
     stack: &[u8],
     lies: u64,
@@ -51,6 +53,7 @@ fn fetch(
 }
 
 // 28, of one word.
+#[tactic(auto, unfolding(crate::specs::Computed::Step::outside_why))]
 fn outside(word: Needed, cfa: u64, offset: Offset, stack: &[u8], lies: u64) -> RowReason
     ensures { result ≡ outside_why word cfa offset stack.now lies }
 {
@@ -64,6 +67,7 @@ fn outside(word: Needed, cfa: u64, offset: Offset, stack: &[u8], lies: u64) -> R
 }
 
 // The caller, by RA as it was read and FP.
+#[tactic(auto, unfolding(crate::specs::Computed::Step::caller_why))]
 fn caller_of(registers: Registers, mask: u64, cfa: u64, ra: u64, fp: u64) -> RowReason
     ensures { result ≡ caller_why registers mask cfa ra fp }
 {
@@ -81,6 +85,7 @@ fn caller_of(registers: Registers, mask: u64, cfa: u64, ra: u64, fp: u64) -> Row
 }
 
 // 28 of FP's word, or the caller.
+#[tactic(auto, unfolding(crate::specs::Computed::Step::with_ra))]
 fn with_ra(
     registers: Registers,
     stack: &[u8],
@@ -99,6 +104,7 @@ fn with_ra(
 }
 
 // RA's word is tried before FP's.
+#[tactic(auto, unfolding(crate::specs::Computed::Step::from_words))]
 fn from_words(
     registers: Registers,
     stack: &[u8],
@@ -117,6 +123,7 @@ fn from_words(
 }
 
 // 27, then the words.
+#[tactic(auto, unfolding(crate::specs::Computed::Step::from_high))]
 fn from_high(
     shape: Shape,
     stack: &[u8],
@@ -143,6 +150,7 @@ fn from_high(
 }
 
 // 26, then what follows.
+#[tactic(auto, unfolding(crate::specs::Computed::Step::from_cfa_why))]
 fn from_cfa(
     shape: Shape,
     stack: &[u8],
@@ -165,6 +173,7 @@ fn from_cfa(
 }
 
 // What a row comes to, with no section at hand: 24, 25 and what follows.
+#[tactic(auto, unfolding(crate::specs::Computed::Step::from_row_why, crate::specs::Computed::Step::by_address))]
 pub fn explain_row(
     shape: Shape,
     stack: &[u8],
@@ -192,6 +201,7 @@ pub fn explain_row(
 }
 
 // The step from what was looked up at a PC.
+#[tactic(auto, unfolding(crate::specs::Computed::Step::by_looked, crate::specs::Computed::Step::by_reason))]
 fn by_looked(
     shape: Shape,
     stack: &[u8],
@@ -224,6 +234,7 @@ fn by_looked(
 }
 
 // Without a lookup, nobody stands beside.
+#[tactic(auto, unfolding(crate::specs::Computed::Step::unlooked_why))]
 fn unlooked(reason: StepReason) -> StepWhy
     ensures { result ≡ unlooked_why reason }
 {

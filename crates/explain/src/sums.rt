@@ -12,6 +12,7 @@ pub enum Sum {
     Above(u64),
 }
 
+#[tactic(auto, unfolding(crate::specs::Computed::Sum::sum_up))]
 fn raised_by(base: u64, by: u64) -> Sum
     ensures { result ≡ sum_up base by }
 {
@@ -23,6 +24,7 @@ fn raised_by(base: u64, by: u64) -> Sum
     }
 }
 
+#[tactic(auto, unfolding(crate::specs::Computed::Sum::sum_down))]
 fn lowered_by(base: u64, by: u64) -> Sum
     ensures { result ≡ sum_down base by }
 {
@@ -34,6 +36,7 @@ fn lowered_by(base: u64, by: u64) -> Sum
 }
 
 // Never wrapped.
+#[tactic(auto, unfolding(crate::specs::Computed::Sum::sum_of, crate::specs::Computed::Sum::sum_by))]
 pub fn sum_of(base: u64, offset: Offset) -> Sum
     ensures { result ≡ sum_of base offset.by }
 {
