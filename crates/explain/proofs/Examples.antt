@@ -6,6 +6,7 @@ use mathlib.Core.List.{List, [], ◌∷◌, map}
 use Prim.Native.Nat.{ℕ, ◌-◌, ◌^◌}
 use lib.IntN.{ℤ, pos, negsuc}
 use lib.ListN.{take, replicate, set}
+use Rattle.std.specs.Prelude.{Option, Some, None, Result, Ok, Err}
 use Rattle.numbers.specs.declared.field.Order.TheVariants.{Little}
 use Rattle.section.specs.SectionS.{section_s, overlapping_s, unsorted_s, at_entry, with_frame}
 use Rattle.section.specs.Shape.{aarch64_shape}
@@ -22,32 +23,28 @@ use Rattle.explain.specs.Inner.Opened.{explain_opened}
 use Rattle.explain.specs.declared.sums.Sum.{Sum}
 use Rattle.explain.specs.declared.sums.Sum.TheVariants.{At, Below, Above}
 use Rattle.explain.specs.declared.why.FoundRow.{FoundRow}
-use Rattle.explain.specs.declared.why.Looked.{Looked}
-use Rattle.explain.specs.declared.why.Looked.TheVariants.{Found, NotFound}
 use Rattle.explain.specs.declared.why.LookupReason.TheVariants as lookup
 use Rattle.explain.specs.declared.why.LookupWhy.{LookupWhy}
-use Rattle.explain.specs.declared.why.Nearest.{Nearest}
-use Rattle.explain.specs.declared.why.Nearest.TheVariants.{Covered, Nothing}
+use Rattle.explain.specs.declared.why.Covered.{Covered}
 use Rattle.explain.specs.declared.why.Needed.TheVariants.{Ra}
+use Rattle.explain.specs.declared.why.NotFound.{NotFound}
 use Rattle.explain.specs.declared.why.NotFound.TheVariants.{NoFunction, Dispute, NoRow}
 use Rattle.explain.specs.declared.why.RowReason.{RowReason}
 use Rattle.explain.specs.declared.why.RowReason.TheVariants.{Caller, Signed, CfaOutside, CfaLow, RaLost, WordOutside}
-use Rattle.explain.specs.declared.why.RowStart.{RowStart}
-use Rattle.explain.specs.declared.why.RowStart.TheVariants.{Is, Missing}
 use Rattle.explain.specs.declared.why.StepReason.{StepReason}
 use Rattle.explain.specs.declared.why.StepReason.TheVariants as step
 use Rattle.explain.specs.declared.why.StepWhy.{StepWhy}
 
 -- ---- lookups, "Loaded at 0x400000"
 
-accepted : Looked → LookupWhy
+accepted : Result FoundRow NotFound → LookupWhy
 accepted why = record { reason = lookup.Accepted why; coverers = no_coverers }
 
-found : Row → ℕ → ℕ → ℕ → RowStart → FoundRow
+found : Row → ℕ → ℕ → ℕ → Option ℕ → FoundRow
 found row function number offset next = record { row = row; function = function; number = number; offset = offset; next = next }
 
-at : ℤ → ℕ → Nearest
-at by function = Covered (record { by = by }) function
+at : ℤ → ℕ → Option Covered
+at by function = Some (record { offset = record { by = by }; function = function })
 
 -- S with function 0 having its row 1 alone, which starts at 4; with function 0 being two repeated blocks of 16 bytes; and with function 0
 -- empty
@@ -62,18 +59,18 @@ empty = set section_s 32 0x00
 
 lookups : List (LookupWhy × LookupWhy)
 lookups =
-    (lookup_why section_s 0x400000 0x401003, accepted (Found (found at_entry 0 0 3 (Is 4))))
-    ∷ (lookup_why section_s 0x400000 0x40101f, accepted (Found (found with_frame 0 1 31 Missing)))
-    ∷ (lookup_why blocks 0x400000 0x401013, accepted (Found (found at_entry 0 0 3 (Is 4))))
-    ∷ (lookup_why section_s 0x400000 0x400fff, accepted (NotFound (NoFunction Nothing (at (pos 0x1000) 0))))
-    ∷ (lookup_why section_s 0x400000 0x401030, accepted (NotFound (NoFunction (at (pos 0x101f) 0) (at (pos 0x1040) 1))))
-    ∷ (lookup_why section_s 0x400000 0x401050, accepted (NotFound (NoFunction (at (pos 0x104f) 1) Nothing)))
-    ∷ (lookup_why empty 0x400000 0x401000, accepted (NotFound (NoFunction Nothing (at (pos 0x1040) 1))))
+    (lookup_why section_s 0x400000 0x401003, accepted (Ok (found at_entry 0 0 3 (Some 4))))
+    ∷ (lookup_why section_s 0x400000 0x40101f, accepted (Ok (found with_frame 0 1 31 None)))
+    ∷ (lookup_why blocks 0x400000 0x401013, accepted (Ok (found at_entry 0 0 3 (Some 4))))
+    ∷ (lookup_why section_s 0x400000 0x400fff, accepted (Err (NoFunction None (at (pos 0x1000) 0))))
+    ∷ (lookup_why section_s 0x400000 0x401030, accepted (Err (NoFunction (at (pos 0x101f) 0) (at (pos 0x1040) 1))))
+    ∷ (lookup_why section_s 0x400000 0x401050, accepted (Err (NoFunction (at (pos 0x104f) 1) None)))
+    ∷ (lookup_why empty 0x400000 0x401000, accepted (Err (NoFunction None (at (pos 0x1040) 1))))
     ∷ (
       lookup_why unsorted_s 0x400000 0x40101f,
-      record { reason = lookup.Accepted (NotFound Dispute); coverers = record { count = 2; indexes = 0 ∷ 1 ∷ replicate 14 0 } },
+      record { reason = lookup.Accepted (Err Dispute); coverers = record { count = 2; indexes = 0 ∷ 1 ∷ replicate 14 0 } },
     )
-    ∷ (lookup_why late 0x400000 0x401003, accepted (NotFound (NoRow 0 3 (Is 4))))
+    ∷ (lookup_why late 0x400000 0x401003, accepted (Err (NoRow 0 3 (Some 4))))
     ∷ (lookup_why (take 77 section_s) 0x400000 0x401003, record { reason = lookup.Unsound 8 0; coverers = no_coverers })
     ∷ []
 
@@ -103,22 +100,22 @@ unlooked why = record { reason = why; coverers = no_coverers }
 
 steps : List (StepWhy × StepWhy)
 steps =
-    (step_why section_s stack loaded start, unlooked (step.FromRow (found at_entry 1 0 4 Missing) (Caller second 0x7008 0x401008) 0x401044))
+    (step_why section_s stack loaded start, unlooked (step.FromRow (found at_entry 1 0 4 None) (Caller second 0x7008 0x401008) 0x401044))
     ∷ (
       step_why section_s (take 63 stack) loaded second,
       unlooked
-          (step.FromRow (found with_frame 0 1 7 Missing) (WordOutside Ra 0x7040 (record { by = negsuc 7 }) 0x7000 63) 0x401007),
+          (step.FromRow (found with_frame 0 1 7 None) (WordOutside Ra 0x7040 (record { by = negsuc 7 }) 0x7000 63) 0x401007),
     )
     ∷ (
       step_why section_s stack loaded (record { pc = 0x401005; sp = 0x7008; fp = 0x6ff8; lr = 0; first = 0 }),
-      unlooked (step.FromRow (found with_frame 0 1 4 Missing) (CfaLow 0x7008 0x7008 0) 0x401004),
+      unlooked (step.FromRow (found with_frame 0 1 4 None) (CfaLow 0x7008 0x7008 0) 0x401004),
     )
     ∷ (
       step_why section_s stack loaded (record { pc = 0x401004; sp = 0; fp = 2 ^ 64 - 8; lr = 0; first = 1 }),
-      unlooked (step.FromRow (found with_frame 0 1 4 Missing) (CfaOutside (2 ^ 64 - 8) (record { by = pos 16 })) 0x401004),
+      unlooked (step.FromRow (found with_frame 0 1 4 None) (CfaOutside (2 ^ 64 - 8) (record { by = pos 16 })) 0x401004),
     )
     ∷ (step_why section_s stack loaded (from 0x401040 0), unlooked (step.NotFound 0x40103f (NoFunction (at (pos 0x101f) 0) (at (pos 0x1040) 1))))
-    ∷ (step_why late stack loaded (from 0x401004 0), unlooked (step.NotFound 0x401003 (NoRow 0 3 (Is 4))))
+    ∷ (step_why late stack loaded (from 0x401004 0), unlooked (step.NotFound 0x401003 (NoRow 0 3 (Some 4))))
     ∷ (step_why section_s stack loaded (from 0 0), unlooked step.NothingAsked)
     ∷ (step_why (take 77 section_s) stack loaded start, unlooked (step.Unsound 8 0))
     ∷ (step_why section_s stack (record { section = 0x400000; stack = 2 ^ 64 - 63; mask = 0 }) start, unlooked (step.Window (2 ^ 64 - 63) 64))

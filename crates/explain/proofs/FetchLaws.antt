@@ -5,6 +5,7 @@ use mathlib.Core.List.{List}
 use mathlib.Core.Logic.{◌⊎◌, inl, inr, ⊎_elim}
 use Prim.Native.Nat.{ℕ, ◌+◌, ◌^◌, ◌≤◌}
 use lib.ListN.{length}
+use Rattle.std.specs.Prelude.{Ok, Err}
 use Rattle.numbers.specs.declared.field.Order.{Order}
 use Rattle.numbers.specs.declared.offset.Offset.{Offset}
 use Rattle.section.specs.declared.row.Place.{Place}
@@ -12,17 +13,16 @@ use Rattle.section.specs.declared.row.Place.TheVariants.{Register, AtOffset}
 use Rattle.caller.specs.Cases.{ValueIs, Outside}
 use Rattle.caller.proofs.TestLaws.{value_given, no_value, value_decided, of_inside}
 use Rattle.explain.specs.Computed.Step.{fetched_at, fetched_of}
-use Rattle.explain.specs.declared.stepped.Fetched.TheVariants.{Is, Missing}
 
 module _ (stack : List ℕ) (lies : ℕ) (order : Order) (cfa register : ℕ) where
   -- there is a value
   abbrev pub Fetches : Place → Type 0
-  Fetches place = (value : ℕ) × ValueIs stack lies order cfa register place value × (fetched_of stack lies order cfa register place ≡ Is value)
+  Fetches place = (value : ℕ) × ValueIs stack lies order cfa register place value × (fetched_of stack lies order cfa register place ≡ Ok value)
 
   -- there is none
   abbrev pub Misses : Place → Type 0
   Misses place =
-      (offset : Offset) × (place ≡ AtOffset offset) × Outside stack lies cfa place × (fetched_of stack lies order cfa register place ≡ Missing offset)
+      (offset : Offset) × (place ≡ AtOffset offset) × Outside stack lies cfa place × (fetched_of stack lies order cfa register place ≡ Err offset)
 
   pub fetch_decided : lies + length stack ≤ 2 ^ 64 → (place : Place) → Fetches place ⊎ Misses place
   unfolding fetched_of fetched_at

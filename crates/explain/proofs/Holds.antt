@@ -10,7 +10,7 @@ use lib.Dec.{ltb}
 use lib.IntN.{ℤ}
 use lib.ListN.{length}
 use borrow.Author.Tests.{ltb-true, ltb-false}
-use Rattle.std.specs.Prelude.{Option, Some, None}
+use Rattle.std.specs.Prelude.{Option, Some, None, Result, Ok, Err}
 use Rattle.numbers.specs.Start.{distance}
 use Rattle.numbers.specs.Computed.Address.{in_memory, window_fits}
 use Rattle.numbers.specs.declared.field.Order.{Order}
@@ -28,8 +28,7 @@ use Rattle.lookup.specs.Computed.Answers.{with_row, with_cover, outcome}
 use Rattle.lookup.specs.Computed.Covering.{covering, cover_of}
 use Rattle.lookup.specs.Computed.Rows.{offset_within, row_for}
 use Rattle.lookup.specs.Outcome as outcome
-use Rattle.lookup.specs.declared.rows.Scan.{Scan}
-use Rattle.lookup.specs.declared.rows.Scan.TheVariants.{Missed, Hit}
+use Rattle.lookup.specs.declared.rows.Hit.{Hit}
 use Rattle.lookup.specs.declared.search.Cover.{Cover}
 use Rattle.lookup.specs.declared.search.Cover.TheVariants.{Nobody, One, Two}
 use Rattle.lookup.proofs.CaseLaws.{functions_at, functions_count, outcome_exactly_when}
@@ -51,13 +50,13 @@ use Rattle.explain.specs.Computed.Nearest.{nearest_in}
 use Rattle.explain.specs.Computed.Step.{fetched_of, outside_why, caller_why, with_ra, from_words, from_high, from_cfa_why, by_address, from_row_why, by_reason, by_looked, unlooked_why, asked_why, checked_why, step_why}
 use Rattle.explain.specs.declared.nearby.Side.TheVariants.{Below, Above}
 use Rattle.explain.specs.declared.why.Coverers.{Coverers}
-use Rattle.explain.specs.declared.why.Looked.{Looked}
-use Rattle.explain.specs.declared.why.Looked.TheVariants as looked
+use Rattle.explain.specs.declared.why.FoundRow.{FoundRow}
 use Rattle.explain.specs.declared.why.Needed.{Needed}
 use Rattle.explain.specs.declared.why.Needed.TheVariants.{Ra, Fp}
 use Rattle.explain.proofs.FetchLaws.{fetch_decided, not_outside}
 use Rattle.explain.proofs.GatherLaws.{all_covering}
 use Rattle.explain.proofs.NearestLaws.{nearest_below, nearest_above}
+use Rattle.explain.specs.declared.why.NotFound.{NotFound}
 
 -- ---- rows
 
@@ -101,14 +100,14 @@ module _ (s : List ℕ) (accepted : verdict s ≡ verdict.Accepted) (d : ℤ) wh
     abbrev used : ℕ
     used = offset_within d (function_in s i)
 
-    scanned : {scan : Scan} → row_for d (function_in s i) ≡ scan → outcome d (functions_of s) ≡ with_row i scan
+    scanned : {scan : Option Hit} → row_for d (function_in s i) ≡ scan → outcome d (functions_of s) ≡ with_row i scan
     unfolding outcome with_cover
     scanned is =
         let inside = rw functions_count at (only_one d (functions_of s) i e).0 in
         ap (with_cover d (functions_of s)) e ∙ ap (λ f. with_row i (row_for d f)) (functions_at s i inside) ∙ ap (with_row i) is
 
     -- a found row
-    pub found_holds : (row : Row) (k : ℕ) → row_for d (function_in s i) ≡ Hit row k
+    pub found_holds : (row : Row) (k : ℕ) → row_for d (function_in s i) ≡ Some (record { row = row; number = k })
         → WhyFound s d
         (record { row = row; function = i; number = k; offset = used; next = start_in (area_of s) (shape_of s) (entry_in s i) (k + 1) })
     unfolding with_row
@@ -129,7 +128,7 @@ module _ (s : List ℕ) (accepted : verdict s ≡ verdict.Accepted) (d : ℤ) wh
         }
 
     -- 23
-    pub no_row_holds : row_for d (function_in s i) ≡ Missed → WhyNoRow s d i used (start_in (area_of s) (shape_of s) (entry_in s i) 0)
+    pub no_row_holds : row_for d (function_in s i) ≡ None → WhyNoRow s d i used (start_in (area_of s) (shape_of s) (entry_in s i) 0)
     unfolding with_row
     no_row_holds is =
         let case = (outcome_exactly_when s d accepted (outcome.NoRow i)).0 (scanned is) in
@@ -148,10 +147,10 @@ module _ (s : List ℕ) (accepted : verdict s ≡ verdict.Accepted) (d : ℤ) wh
     unfolding in_function by_scan
     function-holds = by-scan (row_for d (function_in s i)) refl
       where
-        by-scan : (scan : Scan) → row_for d (function_in s i) ≡ scan
+        by-scan : (scan : Option Hit) → row_for d (function_in s i) ≡ scan
             → WhyLooked s d no_coverers (by_scan (area_of s) (shape_of s) (entry_in s i) i used scan)
-        by-scan Missed is = no_row_holds is
-        by-scan (Hit row k) is = found_holds row k is
+        by-scan None is = no_row_holds is
+        by-scan (Some hit) is = found_holds hit.row hit.number is
 
   pub looked_holds : WhyLooked s d (looked_of s d).coverers (looked_of s d).looked
   unfolding looked_of by_cover alone_why no_function_why
@@ -323,11 +322,11 @@ module _ (s stack : List ℕ) (process : Process) (registers : Registers) where
       pub at_holds : {P : ℤ → Type 0} → P (distance process.section pc) → WhyAt s stack process registers pc P
       at_holds h = record { fits = fits; obeys = (accepted_exactly_when s).0 accepted; asked = (asked_exactly_when registers pc).0 e; holds = h }
 
-      by-looked : (coverers : Coverers) (why : Looked) → WhyLooked s (distance process.section pc) coverers why
+      by-looked : (coverers : Coverers) (why : Result FoundRow NotFound) → WhyLooked s (distance process.section pc) coverers why
           → WhyStepReason s stack process registers coverers (by_reason (shape_of s) stack process registers pc why)
       unfolding by_reason
-      by-looked coverers (looked.NotFound why) h = at_holds h
-      by-looked coverers (looked.Found found) h = (at_holds h, row-holds s stack process registers found.row fits)
+      by-looked coverers (Err why) h = at_holds h
+      by-looked coverers (Ok found) h = (at_holds h, row-holds s stack process registers found.row fits)
 
     asked-holds : (asked : Option ℕ) → asked_of registers ≡ asked → WhyStep s stack process registers (asked_why s stack process registers asked)
     unfolding asked_why unlooked_why by_looked

@@ -11,6 +11,7 @@ use native.Mathlib.Omega.{arith}
 use lib.IntN.{ℤ}
 use lib.ListN.{get_or}
 use lib.Signed.{≤ℤ_refl}
+use Rattle.std.specs.Prelude.{Option, Some, None, Result, Ok, Err}
 use Rattle.numbers.specs.Start.{distance}
 use Rattle.numbers.specs.declared.offset.Offset.{Offset}
 use Rattle.section.specs.Meaning.{shape_of}
@@ -36,19 +37,16 @@ use Rattle.explain.specs.Answers.{outcome_missing, outcome_looked, outcome_reaso
 use Rattle.explain.specs.Why.{WhyFound, WhyNoRow, NearestBelow, NearestAbove, AllCovering, WhyNotFound, WhyLooked, WhyUnsound, WhyReason, WhyLookup, WhySigned, WhyCfaOutside, WhyCfaLow, WhyRaLost, NeededAt, WhyWordOutside, WhyCaller, WhyRow, WhyWindow, WhyAt, WhyNothingAsked, WhyStepReason, WhyStep}
 use Rattle.explain.specs.declared.why.Coverers.{Coverers}
 use Rattle.explain.specs.declared.why.FoundRow.{FoundRow}
-use Rattle.explain.specs.declared.why.Looked.{Looked}
-use Rattle.explain.specs.declared.why.Looked.TheVariants as looked
 use Rattle.explain.specs.declared.why.LookupReason.{LookupReason}
 use Rattle.explain.specs.declared.why.LookupReason.TheVariants as lookup
 use Rattle.explain.specs.declared.why.LookupWhy.{LookupWhy}
-use Rattle.explain.specs.declared.why.Nearest.{Nearest}
-use Rattle.explain.specs.declared.why.Nearest.TheVariants.{Covered, Nothing}
+use Rattle.explain.specs.declared.why.Covered.{Covered}
 use Rattle.explain.specs.declared.why.Needed.{Needed}
 use Rattle.explain.specs.declared.why.Needed.TheVariants.{Ra, Fp}
 use Rattle.explain.specs.declared.why.NotFound.TheVariants as missing
+use Rattle.explain.specs.declared.why.NotFound.{NotFound}
 use Rattle.explain.specs.declared.why.RowReason.{RowReason}
 use Rattle.explain.specs.declared.why.RowReason.TheVariants as row
-use Rattle.explain.specs.declared.why.RowStart.{RowStart}
 use Rattle.explain.specs.declared.why.StepReason.{StepReason}
 use Rattle.explain.specs.declared.why.StepReason.TheVariants as step
 use Rattle.explain.specs.declared.why.StepWhy.{StepWhy}
@@ -57,9 +55,9 @@ use Rattle.explain.proofs.RowLaws.{found_case, no_row_case}
 -- ---- which functions cover
 
 -- nothing covers PC, by what is nearest below it, and as well by what is nearest above
-none_by_below : (s : List ℕ) (d : ℤ) (below : Nearest) → NearestBelow s d below → NoneCovers s d
-none_by_below s d (Covered offset i) h = h.2 d h.1 (≤ℤ_refl d)
-none_by_below s d Nothing h = h d (≤ℤ_refl d)
+none_by_below : (s : List ℕ) (d : ℤ) (below : Option Covered) → NearestBelow s d below → NoneCovers s d
+none_by_below s d (Some covered) h = h.2 d h.1 (≤ℤ_refl d)
+none_by_below s d None h = h d (≤ℤ_refl d)
 
 -- of all that cover, the first two are the two lowest
 module _ (s : List ℕ) (d : ℤ) (coverers : Coverers) (two : 2 ≤ coverers.count) (all : AllCovering s d coverers) where
@@ -96,7 +94,7 @@ module _ (s : List ℕ) (address pc : ℕ) where
         (lookups.found_exactly_when s ((accepted_exactly_when s).1 obeys) address pc _ _ _).1 (found_case s obeys _ found why)
 
     -- 21
-    pub no_function_implies : (below above : Nearest) → NearestBelow s (distance address pc) below → NearestAbove s (distance address pc) above
+    pub no_function_implies : (below above : Option Covered) → NearestBelow s (distance address pc) below → NearestAbove s (distance address pc) above
         → (lookup_of s address pc).outcome ≡ outcome.NoFunction
     no_function_implies below above near far =
         (lookups.no_function_exactly_when s ((accepted_exactly_when s).1 obeys) address pc).1 (none_by_below s _ below near)
@@ -108,18 +106,18 @@ module _ (s : List ℕ) (address pc : ℕ) where
         (lookups.dispute_exactly_when s ((accepted_exactly_when s).1 obeys) address pc _ _).1 (first_two s _ coverers two all)
 
     -- 23
-    pub no_row_implies : (function offset : ℕ) (first : RowStart) → WhyNoRow s (distance address pc) function offset first
+    pub no_row_implies : (function offset : ℕ) (first : Option ℕ) → WhyNoRow s (distance address pc) function offset first
         → (lookup_of s address pc).outcome ≡ outcome.NoRow function
     no_row_implies function offset first why =
         (lookups.no_row_exactly_when s ((accepted_exactly_when s).1 obeys) address pc function).1 (no_row_case s obeys _ function offset first why)
 
-    looked-implies : (coverers : Coverers) (why : Looked) → WhyLooked s (distance address pc) coverers why
+    looked-implies : (coverers : Coverers) (why : Result FoundRow NotFound) → WhyLooked s (distance address pc) coverers why
         → (lookup_of s address pc).outcome ≡ outcome_looked coverers why
     unfolding outcome_looked outcome_missing
-    looked-implies coverers (looked.Found found) h = found_implies found h
-    looked-implies coverers (looked.NotFound (missing.NoFunction below above)) h = no_function_implies below above h.0 h.1
-    looked-implies coverers (looked.NotFound missing.Dispute) h = dispute_implies coverers h.0 h.1
-    looked-implies coverers (looked.NotFound (missing.NoRow function offset first)) h = no_row_implies function offset first h
+    looked-implies coverers (Ok found) h = found_implies found h
+    looked-implies coverers (Err (missing.NoFunction below above)) h = no_function_implies below above h.0 h.1
+    looked-implies coverers (Err missing.Dispute) h = dispute_implies coverers h.0 h.1
+    looked-implies coverers (Err (missing.NoRow function offset first)) h = no_row_implies function offset first h
 
   reason-implies : (coverers : Coverers) (why : LookupReason) → WhyReason s address pc coverers why
       → (lookup_of s address pc).outcome ≡ outcome_reason coverers why
@@ -168,7 +166,7 @@ module _ (s stack : List ℕ) (process : Process) (registers : Registers) where
       }
 
   -- 21
-  pub step_no_function_implies : (pc : ℕ) (coverers : Coverers) (below above : Nearest)
+  pub step_no_function_implies : (pc : ℕ) (coverers : Coverers) (below above : Option Covered)
       → WhyAt s stack process registers pc (λ d. WhyNotFound s d coverers (missing.NoFunction below above))
       → step_in s stack process registers ≡ Refused registers (number_of_refusal (unfound no_function))
   step_no_function_implies pc coverers below above why =
@@ -183,7 +181,7 @@ module _ (s stack : List ℕ) (process : Process) (registers : Registers) where
       (looked_up pc (λ obeys d h. let (less, here, there, least) = first_two s d coverers h.0 h.1 in (_, _, less, here, there)) why)
 
   -- 23
-  pub step_no_row_implies : (pc : ℕ) (coverers : Coverers) (function offset : ℕ) (first : RowStart)
+  pub step_no_row_implies : (pc : ℕ) (coverers : Coverers) (function offset : ℕ) (first : Option ℕ)
       → WhyAt s stack process registers pc (λ d. WhyNotFound s d coverers (missing.NoRow function offset first))
       → step_in s stack process registers ≡ Refused registers (number_of_refusal (unfound no_row))
   step_no_row_implies pc coverers function offset first why =

@@ -7,6 +7,7 @@ use native.Mathlib.Omega.{arith}
 use lib.Dec.{leb, ltb, eqb}
 use lib.IntN.{ℤ, pos, ◌-ℤ◌}
 use borrow.Author.Tests.{leb-true, leb-false, ltb-true, ltb-false, eqb-true, eqb-false, le-leb, lt-leb, lt-ltb, le-ltb, eq-eqb, ne_eqb}
+use Rattle.std.specs.Prelude.{Option, Some, None}
 use Rattle.numbers.specs.Inner.Held.{near, Held, Near}
 use Rattle.numbers.proofs.DiffLaws.{Diff, diff_pos, diff_add, diff_neg, diff_same, diff_less, diff_unique, diff_le, diff_lt}
 use Rattle.numbers.proofs.HeldLaws.{near_is, held_less}
@@ -16,8 +17,7 @@ use Rattle.explain.specs.Inner.Keys.{side_key, key_by, better, held_of, nearest_
 use Rattle.explain.specs.declared.nearby.Best.{Best}
 use Rattle.explain.specs.declared.nearby.Side.{Side}
 use Rattle.explain.specs.declared.nearby.Side.TheVariants.{Below, Above}
-use Rattle.explain.specs.declared.why.Nearest.{Nearest}
-use Rattle.explain.specs.declared.why.Nearest.TheVariants.{Covered, Nothing}
+use Rattle.explain.specs.declared.why.Covered.{Covered}
 use Rattle.explain.proofs.WholeLaws.{split}
 
 pub near_small : (d : ℤ) → near d ≤ 2 ^ 34
@@ -72,20 +72,20 @@ held_diff {start} {h} held = let same = held_less held in rw (← same) (diff_le
 abbrev low : ℕ → ℤ
 low held = pos held -ℤ pos (2 ^ 32)
 
-nearest_none : (side : Side) (best : Best) → best.key ≡ 0 → nearest_of side best ≡ Nothing
+nearest_none : (side : Side) (best : Best) → best.key ≡ 0 → nearest_of side best ≡ None
 unfolding nearest_of
 nearest_none side best e = rw (eq-eqb best.key 0 e, nearest_of)
 
 nearest_some : (side : Side) (best : Best) → 0 < best.key
-    → nearest_of side best ≡ Covered (record { by = low (held_of side best.key) }) best.function
+    → nearest_of side best ≡ Some (record { offset = record { by = low (held_of side best.key) }; function = best.function })
 unfolding nearest_of
 nearest_some side best lt = let far : ¬ (best.key ≡ 0) = λ e. omega arith in rw (ne_eqb best.key 0 far, nearest_of)
 
 -- ---- one function tried, by the three tests
 
-module _ (side : Side) (d start : ℤ) (size i : ℕ) (known : Nearest) where
+module _ (side : Side) (d start : ℤ) (size i : ℕ) (known : Option Covered) where
   pub tried_nearer : ¬ (size ≡ 0) → on_side side d start size ≡ true → is_nearer side (edge_of side start size) known ≡ true
-      → tried side d start size i known ≡ Covered (record { by = edge_of side start size }) i
+      → tried side d start size i known ≡ Some (record { offset = record { by = edge_of side start size }; function = i })
   unfolding tried
   tried_nearer some there nearer =
       let test : (not (eqb size 0) && (on_side side d start size && is_nearer side (edge_of side start size) known)) ≡ true =
@@ -140,7 +140,7 @@ module _ (side : Side) (d start : ℤ) (size i key : ℕ) (best : Best) (some : 
       let more : best.key < key = ltb-true best.key key e in
       ap (nearest_of side) (better_now best key i more)
       ∙ nearest_some side (record { key = key; function = i }) positive
-      ∙ ap (λ z. Covered (record { by = z }) i) edge
+      ∙ ap (λ z. Some (record { offset = record { by = z }; function = i })) edge
       ∙ sym (tried_nearer side d start size i (nearest_of side best) some there (is-nearer e)))
       (λ e.
       let less : key ≤ best.key = ltb-false best.key key e in
@@ -153,7 +153,7 @@ module _ (side : Side) (d start : ℤ) (size i key : ℕ) (best : Best) (some : 
           (λ none. rw (nearest_none side best (eqb-true best.key 0 none)) (always side))
           (λ one. let far : ¬ (best.key ≡ 0) = eqb-false best.key 0 one in nearer (omega arith) ∙ e)
         where
-          always : (side : Side) → is_nearer side (edge_of side start size) Nothing ≡ true
+          always : (side : Side) → is_nearer side (edge_of side start size) None ≡ true
           always Below = refl
           always Above = refl
 

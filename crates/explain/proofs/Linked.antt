@@ -167,7 +167,7 @@ module _ (look : Symbol → Entry) (in_numbers : numbers.Finds look) (in_section
   looked_by_scan = link-looked-by_scan.has look false here.looked_by_scan looked_start_in
 
   pub looked_in_function : HasT look false link-looked-in_function.code
-  looked_in_function = link-looked-in_function.has look false here.looked_in_function looked_by_scan (lookup.look_block_offset look in_numbers in_section in_accept in_lookup) (lookup.rows_scan_rows look in_numbers in_section in_accept in_lookup) (lookup.table_entry_in look in_numbers in_section in_accept in_lookup) (numbers.held_near_of look in_numbers) (section.entry_start_of look in_numbers in_section) (section.header_order_at look in_numbers in_section) (section.shape_shape_of look in_numbers in_section)
+  looked_in_function = link-looked-in_function.has look false here.looked_in_function looked_by_scan (lookup.look_reached_in look in_numbers in_section in_accept in_lookup) (lookup.rows_scan_rows look in_numbers in_section in_accept in_lookup) (section.shape_shape_of look in_numbers in_section)
 
   pub nearby_better_of : HasT look false link-nearby-better_of.code
   nearby_better_of = link-nearby-better_of.has look false here.nearby_better_of

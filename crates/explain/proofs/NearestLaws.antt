@@ -12,6 +12,7 @@ use lib.Dec.{eqb}
 use lib.IntN.{ℤ, pos, ◌+ℤ◌}
 use lib.Signed.{◌≤ℤ◌, ◌<ℤ◌, ≤ℤ_refl, <ℤ-≤ℤ_trans}
 use borrow.Author.Tests.{eqb-true, eqb-false}
+use Rattle.std.specs.Prelude.{Option, Some, None}
 use Rattle.numbers.proofs.DiffLaws.{Diff, diff_pos, diff_add, diff_neg}
 use Rattle.section.specs.Meaning.{entry_in, function_start}
 use Rattle.accept.specs.Rules.{function_count}
@@ -22,8 +23,7 @@ use Rattle.explain.specs.Why.{NearestBelow, NearestAbove}
 use Rattle.explain.specs.Computed.Nearest.{edge_of, on_side, is_nearer, tried, nearest_in}
 use Rattle.explain.specs.declared.nearby.Side.{Side}
 use Rattle.explain.specs.declared.nearby.Side.TheVariants.{Below, Above}
-use Rattle.explain.specs.declared.why.Nearest.{Nearest}
-use Rattle.explain.specs.declared.why.Nearest.TheVariants.{Covered, Nothing}
+use Rattle.explain.specs.declared.why.Covered.{Covered}
 use Rattle.explain.proofs.EachLaws.{each_holds}
 use Rattle.explain.proofs.KeyLaws.{tried_nearer, tried_farther, tried_elsewhere, tried_empty}
 use Rattle.explain.proofs.WholeLaws.{Split, split, le_of, of_le, lt_of, of_lt, not_less, not_le}
@@ -87,16 +87,16 @@ side_shows Below d start size = le_shows (start +ℤ pos size) d
 side_shows Above d start size = lt_shows d start
 
 -- the one known, if there is one, is farther
-abbrev Beats : Side → ℤ → Nearest → Type 0
-Beats side z Nothing = Unit {0}
-Beats side z (Covered offset i) = Nearer side z offset.by
+abbrev Beats : Side → ℤ → Option Covered → Type 0
+Beats side z None = Unit {0}
+Beats side z (Some known) = Nearer side z known.offset.by
 
-beats_shows : (side : Side) (z : ℤ) (known : Nearest) → Shows (is_nearer side z known) (Beats side z known)
+beats_shows : (side : Side) (z : ℤ) (known : Option Covered) → Shows (is_nearer side z known) (Beats side z known)
 unfolding is_nearer
-beats_shows Below z Nothing = record { holds = λ e. tt; broken = λ e h. true≢false e }
-beats_shows Above z Nothing = record { holds = λ e. tt; broken = λ e h. true≢false e }
-beats_shows Below z (Covered offset i) = lt_shows offset.by z
-beats_shows Above z (Covered offset i) = lt_shows z offset.by
+beats_shows Below z None = record { holds = λ e. tt; broken = λ e h. true≢false e }
+beats_shows Above z None = record { holds = λ e. tt; broken = λ e h. true≢false e }
+beats_shows Below z (Some known) = lt_shows known.offset.by z
+beats_shows Above z (Some known) = lt_shows z known.offset.by
 
 module _ (s : List ℕ) (d : ℤ) (side : Side) where
   abbrev size : ℕ → ℕ
@@ -111,14 +111,14 @@ module _ (s : List ℕ) (d : ℤ) (side : Side) where
 
   -- ---- of the first n functions
 
-  abbrev SoFar : ℕ → Nearest → Type 0
-  SoFar n Nothing = (j : ℕ) → j < n → ¬ Candidate j
-  SoFar n (Covered offset i) =
-      (i < n)
-      × Candidate i
-      × (offset.by ≡ edge i)
-      × ((j : ℕ) → j < n → Candidate j → AsNear side offset.by (edge j))
-      × ((j : ℕ) → j < i → Candidate j → Nearer side offset.by (edge j))
+  abbrev SoFar : ℕ → Option Covered → Type 0
+  SoFar n None = (j : ℕ) → j < n → ¬ Candidate j
+  SoFar n (Some known) =
+      (known.function < n)
+      × Candidate known.function
+      × (known.offset.by ≡ edge known.function)
+      × ((j : ℕ) → j < n → Candidate j → AsNear side known.offset.by (edge j))
+      × ((j : ℕ) → j < known.function → Candidate j → Nearer side known.offset.by (edge j))
 
   -- one more, which is not nearer or none at all
   module _ (n : ℕ) where
@@ -127,24 +127,24 @@ module _ (s : List ℕ) (d : ℤ) (side : Side) where
         let le : j ≤ n = omega arith in
         ⊎_elim (λ same. rw same here) (before j) (eq-or-lt_of_le le)
 
-    more : (known : Nearest) → SoFar n known → (Candidate n → ¬ Beats side (edge n) known) → SoFar (suc n) known
-    more Nothing h beaten = up_to h (λ candidate. beaten candidate tt)
-    more (Covered offset i) h beaten =
+    more : (known : Option Covered) → SoFar n known → (Candidate n → ¬ Beats side (edge n) known) → SoFar (suc n) known
+    more None h beaten = up_to h (λ candidate. beaten candidate tt)
+    more (Some known) h beaten =
         let (lt, here, is, nearest, lower) = h in
-        (omega arith, here, is, up_to nearest (λ candidate. not_nearer side (edge n) offset.by (beaten candidate)), lower)
+        (omega arith, here, is, up_to nearest (λ candidate. not_nearer side (edge n) known.offset.by (beaten candidate)), lower)
 
-    taken : (known : Nearest) → SoFar n known → Candidate n → Beats side (edge n) known → SoFar (suc n) (Covered (record { by = edge n }) n)
-    taken Nothing none candidate beats = (
+    taken : (known : Option Covered) → SoFar n known → Candidate n → Beats side (edge n) known → SoFar (suc n) (Some (record { offset = record { by = edge n }; function = n }))
+    taken None none candidate beats = (
       omega arith,
       candidate,
       refl,
       up_to (λ j lt other. absurd (none j lt other)) (λ other. as_near_itself side (edge n)),
       λ j lt other. absurd (none j lt other),
     )
-    taken (Covered offset i) h candidate beats =
+    taken (Some known) h candidate beats =
         let (lt, here, is, nearest, lower) = h in
         let farther : (j : ℕ) → j < n → Candidate j → Nearer side (edge n) (edge j) = λ j less other.
-        nearer_on side (edge n) offset.by (edge j) beats (nearest j less other) in (
+        nearer_on side (edge n) known.offset.by (edge j) beats (nearest j less other) in (
           omega arith,
           candidate,
           refl,
@@ -152,7 +152,7 @@ module _ (s : List ℕ) (d : ℤ) (side : Side) where
           farther,
         )
 
-    turn : (known : Nearest) → SoFar n known → SoFar (suc n) (tried side d (function_start s n) (size n) n known)
+    turn : (known : Option Covered) → SoFar n known → SoFar (suc n) (tried side d (function_start s n) (size n) n known)
     turn known h =
         let there = side_shows side d (function_start s n) (size n) in
         let nearer = beats_shows side (edge n) known in
@@ -176,7 +176,7 @@ module _ (s : List ℕ) (d : ℤ) (side : Side) where
 
   so_far : SoFar (function_count s) (nearest_in s side d)
   unfolding nearest_in function_count
-  so_far = each_holds _ SoFar (function_count s) Nothing (λ n known lt h. turn n known h) (λ j lt. absurd (omega arith))
+  so_far = each_holds _ SoFar (function_count s) None (λ n known lt h. turn n known h) (λ j lt. absurd (omega arith))
 
   -- ---- an address that is covered, on that side of d or at d, which is not
 
@@ -228,28 +228,28 @@ module _ (s : List ℕ) (d : ℤ) (side : Side) where
 
     -- ---- the nearest of all, in the words of Why
 
-    abbrev NearestOn : Nearest → Type 0
-    NearestOn (Covered offset i) =
-        Covers s offset.by i
-        × Nearer side d offset.by
-        × ((z : ℤ) → Nearer side z offset.by → AsNear side d z → NoneCovers s z)
-        × ((j : ℕ) → Covers s offset.by j → i ≤ j)
-    NearestOn Nothing = (z : ℤ) → AsNear side d z → NoneCovers s z
+    abbrev NearestOn : Option Covered → Type 0
+    NearestOn (Some known) =
+        Covers s known.offset.by known.function
+        × Nearer side d known.offset.by
+        × ((z : ℤ) → Nearer side z known.offset.by → AsNear side d z → NoneCovers s z)
+        × ((j : ℕ) → Covers s known.offset.by j → known.function ≤ j)
+    NearestOn None = (z : ℤ) → AsNear side d z → NoneCovers s z
 
-    nearest-on : (known : Nearest) → SoFar (function_count s) known → NearestOn known
-    nearest-on Nothing h = λ z beyond j covered. h j covered.0 (reach z j beyond covered).0
-    nearest-on (Covered offset i) h =
+    nearest-on : (known : Option Covered) → SoFar (function_count s) known → NearestOn known
+    nearest-on None h = λ z beyond j covered. h j covered.0 (reach z j beyond covered).0
+    nearest-on (Some known) h =
         let (lt, here, is, nearest, lower) = h in
-        let (covered, beyond) = covers-edge i lt here in (
+        let (covered, beyond) = covers-edge known.function lt here in (
           rw is covered,
           rw is beyond,
           λ z nearer past j other.
               let (candidate, edged) = reach z j past other in
-              not_both side z offset.by nearer
-              (as_near_on side offset.by (edge j) z (nearest j other.0 candidate) edged),
+              not_both side z known.offset.by nearer
+              (as_near_on side known.offset.by (edge j) z (nearest j other.0 candidate) edged),
           λ j other.
-              let (candidate, edged) = reach offset.by j (nearer_as side d offset.by (rw is beyond)) other in
-              let early : ¬ (j < i) = λ less. not_both side offset.by (edge j) (lower j less candidate) edged in
+              let (candidate, edged) = reach known.offset.by j (nearer_as side d known.offset.by (rw is beyond)) other in
+              let early : ¬ (j < known.function) = λ less. not_both side known.offset.by (edge j) (lower j less candidate) edged in
               omega arith,
         )
 
@@ -258,13 +258,13 @@ module _ (s : List ℕ) (d : ℤ) (side : Side) where
 pub nearest_below : (s : List ℕ) (d : ℤ) → NoneCovers s d → NearestBelow s d (nearest_in s Below d)
 nearest_below s d none = below (nearest_in s Below d) (nearest-on s d Below none (nearest_in s Below d) (so_far s d Below))
   where
-    below : (known : Nearest) → NearestOn s d Below none known → NearestBelow s d known
-    below (Covered offset i) h = h
-    below Nothing h = h
+    below : (known : Option Covered) → NearestOn s d Below none known → NearestBelow s d known
+    below (Some known) h = h
+    below None h = h
 
 pub nearest_above : (s : List ℕ) (d : ℤ) → NoneCovers s d → NearestAbove s d (nearest_in s Above d)
 nearest_above s d none = above (nearest_in s Above d) (nearest-on s d Above none (nearest_in s Above d) (so_far s d Above))
   where
-    above : (known : Nearest) → NearestOn s d Above none known → NearestAbove s d known
-    above (Covered offset i) h = h
-    above Nothing h = h
+    above : (known : Option Covered) → NearestOn s d Above none known → NearestAbove s d known
+    above (Some known) h = h
+    above None h = h

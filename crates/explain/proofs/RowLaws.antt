@@ -7,23 +7,22 @@ use Prim.Native.Nat.{ℕ, ◌+◌, ◌≤◌, ◌<◌}
 use native.Mathlib.Nat.{eq-or-lt_of_le}
 use native.Mathlib.Omega.{arith}
 use lib.IntN.{ℤ}
+use Rattle.std.specs.Prelude.{Option, Some, None}
 use Rattle.accept.specs.Rules.{Obeys, function_count, row_count, row_start_at}
 use Rattle.accept.proofs.AcceptedLaws.{rows_rising_lem}
 use Rattle.lookup.specs.Cases.{FoundCase, NoRowCase}
 use Rattle.explain.specs.Why.{StartIs, AboveOffset, WhyFound, WhyNoRow}
 use Rattle.explain.specs.declared.why.FoundRow.{FoundRow}
-use Rattle.explain.specs.declared.why.RowStart.{RowStart}
-use Rattle.explain.specs.declared.why.RowStart.TheVariants.{Is, Missing}
 
 module _ (s : List ℕ) (obeys : Obeys s) where
-  above-behind : (i o k : ℕ) (start : RowStart) → i < function_count s → StartIs s i k start → AboveOffset o start
+  above-behind : (i o k : ℕ) (start : Option ℕ) → i < function_count s → StartIs s i k start → AboveOffset o start
       → (j : ℕ) → k ≤ j → j < row_count s i → o < row_start_at s i j
-  above-behind i o k (Is start) lt (there, is) above j le inside =
+  above-behind i o k (Some start) lt (there, is) above j le inside =
       ⊎_elim
       (λ same. rw (← same, ← is) above)
       (λ less. omega (arith, rows_rising_lem obeys i k j lt less inside))
       (eq-or-lt_of_le le)
-  above-behind i o k Missing lt none above j le inside = absurd (omega arith)
+  above-behind i o k None lt none above j le inside = absurd (omega arith)
 
   -- the row found is the last that starts at or below the offset
   pub found_case : (d : ℤ) (found : FoundRow) → WhyFound s d found → FoundCase s d found.row found.function found.number
@@ -44,7 +43,7 @@ module _ (s : List ℕ) (obeys : Obeys s) where
       }
 
   -- and where the first row starts above it, there is none
-  pub no_row_case : (d : ℤ) (i o : ℕ) (first : RowStart) → WhyNoRow s d i o first → NoRowCase s d i
+  pub no_row_case : (d : ℤ) (i o : ℕ) (first : Option ℕ) → WhyNoRow s d i o first → NoRowCase s d i
   no_row_case d i o first why =
       record {
         only = why.only;

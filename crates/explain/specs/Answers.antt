@@ -1,5 +1,5 @@
 -- The answer that an explanation is of: of a lookup its outcome, and of a step the caller or the refusal with the old registers.
-use Rattle.std.specs.Prelude.{ℕ, get_or}
+use Rattle.std.specs.Prelude.{ℕ, get_or, Result, Ok, Err}
 use Rattle.lookup.specs.Numbers.{no_function, dispute, no_row}
 use Rattle.lookup.specs.Outcome.{Outcome}
 use Rattle.lookup.specs.Outcome as outcome
@@ -8,8 +8,7 @@ use Rattle.caller.specs.declared.registers.Registers.{Registers}
 use Rattle.caller.specs.Step.{Step}
 use Rattle.caller.specs.Step.{Caller, Unsound, Refused}
 use Rattle.explain.specs.declared.why.Coverers.{Coverers}
-use Rattle.explain.specs.declared.why.Looked.{Looked}
-use Rattle.explain.specs.declared.why.Looked.TheVariants as looked
+use Rattle.explain.specs.declared.why.FoundRow.{FoundRow}
 use Rattle.explain.specs.declared.why.LookupReason.{LookupReason}
 use Rattle.explain.specs.declared.why.LookupReason.TheVariants as lookup
 use Rattle.explain.specs.declared.why.LookupWhy.{LookupWhy}
@@ -29,9 +28,9 @@ outcome_missing coverers (missing.NoFunction below above) = outcome.NoFunction
 outcome_missing coverers missing.Dispute = outcome.Dispute (get_or coverers.indexes 0 0) (get_or coverers.indexes 1 0)
 outcome_missing coverers (missing.NoRow function offset first) = outcome.NoRow function
 
-unfoldable pub outcome_looked : Coverers → Looked → Outcome
-outcome_looked coverers (looked.Found found) = outcome.Found found.row found.function found.number
-outcome_looked coverers (looked.NotFound why) = outcome_missing coverers why
+unfoldable pub outcome_looked : Coverers → Result FoundRow NotFound → Outcome
+outcome_looked coverers (Ok found) = outcome.Found found.row found.function found.number
+outcome_looked coverers (Err why) = outcome_missing coverers why
 
 unfoldable pub outcome_reason : Coverers → LookupReason → Outcome
 outcome_reason coverers (lookup.Unsound number index) = outcome.Unsound number index

@@ -1,7 +1,7 @@
 -- Why an answer was given (SPECIFICATION 11.2 to 11.9): what holds of a section, a PC, a stack window, a process and registers where this
 -- is the explanation, as plain propositions in the numbers that it hands out. Nothing here says how they are looked for. That they hold is
 -- `explained_holds`, and that they imply the answer `explained_implies`.
-use Rattle.std.specs.Prelude.{◌≡◌, Bool, true, List, ◌⊎◌, ℕ, ◌+◌, ◌-◌, ◌^◌, ◌≤◌, ◌<◌, ℤ, pos, ◌+ℤ◌, length, get_or, ◌≤ℤ◌, ◌<ℤ◌}
+use Rattle.std.specs.Prelude.{◌≡◌, Bool, true, List, ◌⊎◌, ℕ, ◌+◌, ◌-◌, ◌^◌, ◌≤◌, ◌<◌, ℤ, pos, ◌+ℤ◌, length, get_or, ◌≤ℤ◌, ◌<ℤ◌, Option, Some, None, Result, Ok, Err}
 use Rattle.numbers.specs.Start.{distance}
 use Rattle.numbers.specs.declared.offset.Offset.{Offset}
 use Rattle.section.specs.Meaning.{shape_of}
@@ -21,21 +21,16 @@ use Rattle.explain.specs.declared.sums.Sum.{Sum}
 use Rattle.explain.specs.declared.sums.Sum.TheVariants.{At, Below, Above}
 use Rattle.explain.specs.declared.why.Coverers.{Coverers}
 use Rattle.explain.specs.declared.why.FoundRow.{FoundRow}
-use Rattle.explain.specs.declared.why.Looked.{Looked}
-use Rattle.explain.specs.declared.why.Looked.TheVariants as looked
 use Rattle.explain.specs.declared.why.LookupReason.{LookupReason}
 use Rattle.explain.specs.declared.why.LookupReason.TheVariants as lookup
 use Rattle.explain.specs.declared.why.LookupWhy.{LookupWhy}
-use Rattle.explain.specs.declared.why.Nearest.{Nearest}
-use Rattle.explain.specs.declared.why.Nearest.TheVariants.{Covered, Nothing}
+use Rattle.explain.specs.declared.why.Covered.{Covered}
 use Rattle.explain.specs.declared.why.Needed.{Needed}
 use Rattle.explain.specs.declared.why.Needed.TheVariants.{Ra, Fp}
 use Rattle.explain.specs.declared.why.NotFound.{NotFound}
 use Rattle.explain.specs.declared.why.NotFound.TheVariants as missing
 use Rattle.explain.specs.declared.why.RowReason.{RowReason}
 use Rattle.explain.specs.declared.why.RowReason.TheVariants as row
-use Rattle.explain.specs.declared.why.RowStart.{RowStart}
-use Rattle.explain.specs.declared.why.RowStart.TheVariants.{Is, Missing}
 use Rattle.explain.specs.declared.why.StepReason.{StepReason}
 use Rattle.explain.specs.declared.why.StepReason.TheVariants as step
 use Rattle.explain.specs.declared.why.StepWhy.{StepWhy}
@@ -43,14 +38,14 @@ use Rattle.explain.specs.declared.why.StepWhy.{StepWhy}
 -- ---- rows
 
 -- row k of function i starts there, or function i has no such row
-abbrev pub StartIs : List ℕ → ℕ → ℕ → RowStart → Type 0
-StartIs s i k (Is start) = (k < row_count s i) × (start ≡ row_start_at s i k)
-StartIs s i k Missing = row_count s i ≤ k
+abbrev pub StartIs : List ℕ → ℕ → ℕ → Option ℕ → Type 0
+StartIs s i k (Some start) = (k < row_count s i) × (start ≡ row_start_at s i k)
+StartIs s i k None = row_count s i ≤ k
 
 -- a row that starts there starts above the offset used, and one that is missing does not count
-abbrev pub AboveOffset : ℕ → RowStart → Type 0
-AboveOffset offset (Is start) = offset < start
-AboveOffset offset Missing = Unit {0}
+abbrev pub AboveOffset : ℕ → Option ℕ → Type 0
+AboveOffset offset (Some start) = offset < start
+AboveOffset offset None = Unit {0}
 
 -- "For a found row: the function, the offset used, the row, and the next row's start if there is one.": the function covers and no
 -- other does, the row starts at or below the offset used, and the next one above it
@@ -64,7 +59,7 @@ pub record WhyFound (s : List ℕ) (d : ℤ) (found : FoundRow) : Type 0 where
   pub above : AboveOffset found.offset found.next
 
 -- "For 23: the function, the offset used, and its first row's start or that it has no rows."
-pub record WhyNoRow (s : List ℕ) (d : ℤ) (function offset : ℕ) (first : RowStart) : Type 0 where
+pub record WhyNoRow (s : List ℕ) (d : ℤ) (function offset : ℕ) (first : Option ℕ) : Type 0 where
   pub only : OnlyCovers s d function
   pub offset_is : OffsetIs s d function offset
   pub first_is : StartIs s function 0 first
@@ -74,34 +69,34 @@ pub record WhyNoRow (s : List ℕ) (d : ℤ) (function offset : ℕ) (first : Ro
 
 -- "For 21, in offsets from the section's first byte: the covered address nearest below PC .. with its function (lowest index on a tie),
 -- or that there is none.": function i covers it, it is below d, no address behind it up to d is covered, and no lower index covers it
-abbrev pub NearestBelow : List ℕ → ℤ → Nearest → Type 0
-NearestBelow s d (Covered offset i) =
-    Covers s offset.by i
-    × (offset.by <ℤ d)
-    × ((z : ℤ) → offset.by <ℤ z → z ≤ℤ d → NoneCovers s z)
-    × ((j : ℕ) → Covers s offset.by j → i ≤ j)
-NearestBelow s d Nothing = (z : ℤ) → z ≤ℤ d → NoneCovers s z
+abbrev pub NearestBelow : List ℕ → ℤ → Option Covered → Type 0
+NearestBelow s d (Some covered) =
+    Covers s covered.offset.by covered.function
+    × (covered.offset.by <ℤ d)
+    × ((z : ℤ) → covered.offset.by <ℤ z → z ≤ℤ d → NoneCovers s z)
+    × ((j : ℕ) → Covers s covered.offset.by j → covered.function ≤ j)
+NearestBelow s d None = (z : ℤ) → z ≤ℤ d → NoneCovers s z
 
 -- "and the nearest above"
-abbrev pub NearestAbove : List ℕ → ℤ → Nearest → Type 0
-NearestAbove s d (Covered offset i) =
-    Covers s offset.by i
-    × (d <ℤ offset.by)
-    × ((z : ℤ) → z <ℤ offset.by → d ≤ℤ z → NoneCovers s z)
-    × ((j : ℕ) → Covers s offset.by j → i ≤ j)
-NearestAbove s d Nothing = (z : ℤ) → d ≤ℤ z → NoneCovers s z
+abbrev pub NearestAbove : List ℕ → ℤ → Option Covered → Type 0
+NearestAbove s d (Some covered) =
+    Covers s covered.offset.by covered.function
+    × (d <ℤ covered.offset.by)
+    × ((z : ℤ) → z <ℤ covered.offset.by → d ≤ℤ z → NoneCovers s z)
+    × ((j : ℕ) → Covers s covered.offset.by j → covered.function ≤ j)
+NearestAbove s d None = (z : ℤ) → d ≤ℤ z → NoneCovers s z
 
 -- z is behind the nearest address below d, and before the nearest above
-abbrev pub Behind : Nearest → ℤ → Type 0
-Behind (Covered offset i) z = offset.by <ℤ z
-Behind Nothing z = Unit {0}
+abbrev pub Behind : Option Covered → ℤ → Type 0
+Behind (Some covered) z = covered.offset.by <ℤ z
+Behind None z = Unit {0}
 
-abbrev pub Before : Nearest → ℤ → Type 0
-Before (Covered offset i) z = z <ℤ offset.by
-Before Nothing z = Unit {0}
+abbrev pub Before : Option Covered → ℤ → Type 0
+Before (Some covered) z = z <ℤ covered.offset.by
+Before None z = Unit {0}
 
 -- z is strictly between the two: above the one below d, and below the one above it; where there is none on a side, any address is
-abbrev pub Between : Nearest → Nearest → ℤ → Type 0
+abbrev pub Between : Option Covered → Option Covered → ℤ → Type 0
 Between below above z = Behind below z × Before above z
 
 -- "For 22: the indexes of all covering functions in rising order, up to 16, and how many there are in all.": the functions that cover
@@ -121,9 +116,9 @@ WhyNotFound s d coverers (missing.NoFunction below above) = NearestBelow s d bel
 WhyNotFound s d coverers missing.Dispute = (2 ≤ coverers.count) × AllCovering s d coverers
 WhyNotFound s d coverers (missing.NoRow function offset first) = WhyNoRow s d function offset first
 
-abbrev pub WhyLooked : List ℕ → ℤ → Coverers → Looked → Type 0
-WhyLooked s d coverers (looked.Found found) = WhyFound s d found
-WhyLooked s d coverers (looked.NotFound why) = WhyNotFound s d coverers why
+abbrev pub WhyLooked : List ℕ → ℤ → Coverers → Result FoundRow NotFound → Type 0
+WhyLooked s d coverers (Ok found) = WhyFound s d found
+WhyLooked s d coverers (Err why) = WhyNotFound s d coverers why
 
 -- ---- a lookup
 

@@ -7,10 +7,11 @@ ghost use Rattle.lookup.specs.Inner.Requires.{HeaderOf};
 ghost use Rattle.explain.specs.Computed.Coverers.{no_coverers, with_index, with_if, coverers_in};
 
 use crate::why::Coverers;
-use lookup::search::{Past, past_in};
+use lookup::search::past_in;
 use section::header::Layout;
 
 // Nobody, where there is no dispute.
+#[tactic(auto, unfolding(crate::specs::Computed::Coverers::no_coverers))]
 pub fn no_coverers() -> Coverers
     ensures { result ≡ no_coverers }
 {
@@ -21,6 +22,7 @@ pub fn no_coverers() -> Coverers
 }
 
 // One more that covers. It counts also where there is no room for its index.
+#[tactic(auto, unfolding(crate::specs::Computed::Coverers::with_index, crate::specs::Computed::Coverers::placed))]
 fn with_index(known: Coverers, i: u64) -> Coverers
     requires { known.count < 2 ^ 32 }
     ensures { result ≡ with_index known i }
@@ -36,14 +38,12 @@ fn with_index(known: Coverers, i: u64) -> Coverers
     next
 }
 
+#[tactic(auto, unfolding(crate::specs::Computed::Coverers::with_if))]
 fn with_if(known: Coverers, i: u64, covers: bool) -> Coverers
     requires { known.count < 2 ^ 32 }
     ensures { result ≡ with_if covers i known }
 {
-    if covers {
-        return with_index(known, i);
-    }
-    known
+    if covers { with_index(known, i) } else { known }
 }
 
 // Whether function i covers the PC.
@@ -52,8 +52,8 @@ fn covers_pc(section: &[u8], layout: Layout, i: u64, address: u64, pc: u64) -> b
     ensures { result ≡ covers (distance address pc) (function_in section.now i) }
 {
     match past_in(section, layout, i, address, pc) {
-        Past::Outside => false,
-        Past::By(past) => true,
+        None => false,
+        Some(past) => true,
     }
 }
 
@@ -63,11 +63,9 @@ pub fn all_covering(section: &[u8], layout: Layout, address: u64, pc: u64) -> Co
     ensures { result ≡ coverers_in section.now (distance address pc) }
 {
     let mut known = no_coverers();
-    let mut i = 0;
-    while i < layout.functions as u64 {
+    for i in 0..layout.functions as u64 {
         let covers = covers_pc(section, layout, i, address, pc);
         known = with_if(known, i, covers);
-        i = i + 1;
     }
     known
 }

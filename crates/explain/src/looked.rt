@@ -13,16 +13,14 @@ ghost use Rattle.explain.specs.Computed.Lookup.{start_in, by_scan, in_function, 
 
 use crate::coverers::{all_covering, no_coverers};
 use crate::nearby::{Side, nearest_at};
-use crate::why::{FoundRow, Looked, LookedWhy, LookupReason, LookupWhy, NotFound, RowStart};
+use crate::why::{FoundRow, LookedWhy, LookupReason, LookupWhy, NotFound};
 use accept::section_check::check;
 use accept::verdict::Verdict;
-use lookup::look::block_offset;
-use lookup::rows::{Scan, scan_rows};
+use lookup::look::reached_in;
+use lookup::rows::{Hit, scan_rows};
 use lookup::search::{Cover, find};
-use lookup::table::entry_in;
-use numbers::held::near_of;
-use section::entry::{Entry, start_of, type_of};
-use section::header::{Layout, layout_at, order_at};
+use section::entry::{Entry, type_of};
+use section::header::{Layout, layout_at};
 use section::row::{row_length, row_start_at};
 use section::shape::{Shape, shape_of};
 
@@ -32,16 +30,14 @@ fn row_place(area: &[u8], code: usize, first: usize, k: u64) -> usize
     ensures { result ≡ row_place area.now code first k }
 {
     let mut at = first;
-    let mut j = 0;
-    while j < k {
-        at = at + row_length(area, code, at);
-        j = j + 1;
+    for j in 0..k {
+        at += row_length(area, code, at);
     }
     at
 }
 
 // Where row k of an entry starts, if there is one.
-fn start_in(area: &[u8], shape: Shape, entry: Entry, k: u64) -> RowStart
+fn start_in(area: &[u8], shape: Shape, entry: Entry, k: u64) -> Option<u64>
     requires { entry_fault area.now shape entry ≡ Sound }
     ensures { result ≡ start_in area.now shape entry k }
 {
@@ -49,24 +45,32 @@ fn start_in(area: &[u8], shape: Shape, entry: Entry, k: u64) -> RowStart
         let order = shape.order;
         let code = type_of(entry.info);
         let at = row_place(area, code, entry.first as usize, k);
-        return RowStart::Is(row_start_at(area, order, code, at));
+        return Some(row_start_at(area, order, code, at));
     }
-    RowStart::Missing
+    None
 }
 
 // What the rows of function i come to at offset o.
-fn by_scan(area: &[u8], shape: Shape, entry: Entry, i: u64, o: u64, scan: Scan) -> Looked
+#[tactic(auto, unfolding(crate::specs::Computed::Lookup::by_scan))]
+fn by_scan(
+    area: &[u8],
+    shape: Shape,
+    entry: Entry,
+    i: u64,
+    o: u64,
+    scan: Option<Hit>,
+) -> Result<FoundRow, NotFound>
     requires { entry_fault area.now shape entry ≡ Sound }
     ensures { result ≡ by_scan area.now shape entry i o scan }
 {
     match scan {
-        Scan::Missed => Looked::NotFound(NotFound::NoRow {
+        None => Err(NotFound::NoRow {
             function: i,
             offset: o,
             first: start_in(area, shape, entry, 0),
         }),
-        Scan::Hit { row, number } => Looked::Found(FoundRow {
-            row: row,
+        Some(Hit { row, number }) => Ok(FoundRow {
+            row,
             function: i,
             number: number as u64,
             offset: o,
@@ -76,13 +80,19 @@ fn by_scan(area: &[u8], shape: Shape, entry: Entry, i: u64, o: u64, scan: Scan) 
 }
 
 // What function i comes to, which alone covers the PC.
-fn in_function(section: &[u8], layout: Layout, i: u64, address: u64, pc: u64) -> Looked
+fn in_function(
+    section: &[u8],
+    layout: Layout,
+    i: u64,
+    address: u64,
+    pc: u64,
+) -> Result<FoundRow, NotFound>
     requires { RowAsked section.now layout i (distance address pc) }
     ensures { result ≡ in_function section.now (distance address pc) i }
 {
-    let entry = entry_in(section, layout, order_at(section), i);
-    let past = near_of(address, pc) - start_of(layout.relative, entry);
-    let o = block_offset(entry, past);
+    let reached = reached_in(section, layout, i, address, pc);
+    let entry = reached.entry;
+    let o = reached.offset;
     let abi = layout.abi;
     let shape = shape_of(abi);
     let from = layout.area as usize;
@@ -91,16 +101,18 @@ fn in_function(section: &[u8], layout: Layout, i: u64, address: u64, pc: u64) ->
 }
 
 // Without a dispute, nobody stands beside.
-fn alone(looked: Looked) -> LookedWhy
+#[tactic(auto, unfolding(crate::specs::Computed::Lookup::alone_why))]
+fn alone(looked: Result<FoundRow, NotFound>) -> LookedWhy
     ensures { result ≡ alone_why looked }
 {
     LookedWhy {
-        looked: looked,
+        looked,
         coverers: no_coverers(),
     }
 }
 
 // 21: the nearest addresses that are covered.
+#[tactic(auto, unfolding(crate::specs::Computed::Lookup::no_function_why))]
 fn no_function(section: &[u8], layout: Layout, address: u64, pc: u64) -> NotFound
     requires { HeaderOf section.now layout }
     ensures { result ≡ no_function_why section.now (distance address pc) }
@@ -116,10 +128,10 @@ fn by_cover(section: &[u8], layout: Layout, cover: Cover, address: u64, pc: u64)
     ensures { result ≡ by_cover section.now (distance address pc) cover }
 {
     match cover {
-        Cover::Nobody => alone(Looked::NotFound(no_function(section, layout, address, pc))),
+        Cover::Nobody => alone(Err(no_function(section, layout, address, pc))),
         Cover::One(i) => alone(in_function(section, layout, i, address, pc)),
         Cover::Two(first, second) => LookedWhy {
-            looked: Looked::NotFound(NotFound::Dispute),
+            looked: Err(NotFound::Dispute),
             coverers: all_covering(section, layout, address, pc),
         },
     }
@@ -141,10 +153,7 @@ pub fn explain_lookup(section: &[u8], address: u64, pc: u64) -> LookupWhy
 {
     match check(section) {
         Verdict::Refused { number, index } => LookupWhy {
-            reason: LookupReason::Unsound {
-                number: number,
-                index: index,
-            },
+            reason: LookupReason::Unsound { number, index },
             coverers: no_coverers(),
         },
         Verdict::Accepted => {
@@ -153,7 +162,7 @@ pub fn explain_lookup(section: &[u8], address: u64, pc: u64) -> LookupWhy
             let coverers = why.coverers;
             LookupWhy {
                 reason: LookupReason::Accepted(looked),
-                coverers: coverers,
+                coverers,
             }
         }
     }

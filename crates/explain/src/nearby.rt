@@ -8,18 +8,13 @@ ghost use Rattle.lookup.specs.Inner.Requires.{HeaderOf, TableOf};
 ghost use Rattle.explain.specs.Computed.Nearest.{tried, nearest_in};
 ghost use Rattle.explain.specs.Inner.Keys.{side_key, key_by, better, held_of, nearest_of};
 
-use crate::why::Nearest;
+use crate::why::Covered;
 use lookup::table::entry_in;
 use numbers::field::Order;
-use numbers::held::near_of;
+use numbers::held::{FAR, LIFT, near_of};
 use numbers::offset::Offset;
 use section::entry::start_of;
 use section::header::{Layout, order_at};
-
-// How far above its value a start is held: 2^32.
-const LIFT: u64 = 0x1_0000_0000;
-// Above every start and every end, as they are held: 2^34.
-const FAR: u64 = 0x4_0000_0000;
 
 // The two sides of a PC.
 #[derive(Clone, Copy)]
@@ -36,6 +31,7 @@ pub struct Best {
 }
 
 // The key of a function that is not empty: 0 where it does not lie on that side.
+#[tactic(auto, unfolding(crate::specs::Inner::Keys::side_key))]
 fn side_key(side: Side, start: u64, size: u32, d: u64) -> u64
     requires { start ≤ 3 * 2 ^ 32 }
     ensures { result ≡ side_key side start size d }
@@ -43,21 +39,14 @@ fn side_key(side: Side, start: u64, size: u32, d: u64) -> u64
     match side {
         Side::Below => {
             let end = start + size as u64;
-            if end <= d {
-                return end;
-            }
-            0
+            if end <= d { end } else { 0 }
         }
-        Side::Above => {
-            if d < start {
-                return FAR - start;
-            }
-            0
-        }
+        Side::Above => { if d < start { FAR - start } else { 0 } }
     }
 }
 
 // An empty function covers nothing, and is never the nearest.
+#[tactic(auto, unfolding(crate::specs::Inner::Keys::key_by))]
 fn key_of(side: Side, start: u64, size: u32, d: u64) -> u64
     requires { start ≤ 3 * 2 ^ 32 }
     ensures { result ≡ key_by side start size d }
@@ -79,14 +68,12 @@ fn key_at(section: &[u8], layout: Layout, order: Order, side: Side, i: u64, d: u
 }
 
 // A function with the same key comes too late: the lowest index stands.
+#[tactic(auto, unfolding(crate::specs::Inner::Keys::better))]
 fn better_of(best: Best, key: u64, i: u64) -> Best
     ensures { result ≡ better best key i }
 {
     if best.key < key {
-        return Best {
-            key: key,
-            function: i,
-        };
+        return Best { key, function: i };
     }
     best
 }
@@ -101,15 +88,14 @@ fn best_in(section: &[u8], layout: Layout, order: Order, side: Side, d: u64) -> 
         key: 0,
         function: 0,
     };
-    let mut i = 0;
-    while i < layout.functions as u64 {
+    for i in 0..layout.functions as u64 {
         best = better_of(best, key_at(section, layout, order, side, i, d), i);
-        i = i + 1;
     }
     best
 }
 
 // The address that a key stands for, as it is held: below, the last that the function covers; above, the first.
+#[tactic(auto, unfolding(crate::specs::Inner::Keys::held_of))]
 fn held_of(side: Side, key: u64) -> u64
     requires { (0 < key) × (key ≤ 2 ^ 34) }
     ensures value { result ≡ held_of side key }
@@ -131,21 +117,28 @@ fn lowered(held: u64) -> Offset
     }
 }
 
-fn nearest_of(side: Side, best: Best) -> Nearest
+#[tactic(auto, unfolding(crate::specs::Inner::Keys::nearest_of))]
+fn nearest_of(side: Side, best: Best) -> Option<Covered>
     requires { best.key ≤ 2 ^ 34 }
     ensures { result ≡ nearest_of side best }
 {
     if best.key == 0 {
-        return Nearest::Nothing;
+        return None;
     }
-    Nearest::Covered {
+    Some(Covered {
         offset: lowered(held_of(side, best.key)),
         function: best.function,
-    }
+    })
 }
 
 // The covered address nearest to a PC on one side, where no function covers the PC itself.
-pub fn nearest_at(section: &[u8], layout: Layout, side: Side, address: u64, pc: u64) -> Nearest
+pub fn nearest_at(
+    section: &[u8],
+    layout: Layout,
+    side: Side,
+    address: u64,
+    pc: u64,
+) -> Option<Covered>
     requires { HeaderOf section.now layout }
     ensures { result ≡ nearest_in section.now side (distance address pc) }
 {

@@ -6,7 +6,7 @@ ghost use Rattle.explain.specs.Computed.Step.{fetched_at, fetched_of, outside_wh
 
 use crate::coverers::no_coverers;
 use crate::looked::explain_look;
-use crate::why::{Looked, LookedWhy, Needed, RowReason, StepReason, StepWhy};
+use crate::why::{LookedWhy, Needed, RowReason, StepReason, StepWhy};
 use accept::section_check::check;
 use accept::verdict::Verdict;
 use caller::place::{is_lost, spot_of, value_at};
@@ -22,27 +22,30 @@ use section::row::{Place, Row};
 use section::shape::{Shape, shape_of};
 
 // What stands at a saved place; of a word that is not wholly inside the window, the offset that leads to it.
-#[derive(Clone, Copy)]
-pub enum Fetched {
-    Is(u64),
-    Missing(Offset),
-}
-
-fn fetched_at(offset: Offset, word: Word) -> Fetched
+#[tactic(auto, unfolding(crate::specs::Computed::Step::fetched_at))]
+fn fetched_at(offset: Offset, word: Word) -> Result<u64, Offset>
     ensures { result ≡ fetched_at offset word }
 {
     match word {
-        Word::Is(value) => Fetched::Is(value),
-        Word::Outside => Fetched::Missing(offset),
+        Word::Is(value) => Ok(value),
+        Word::Outside => Err(offset),
     }
 }
 
-fn fetch(stack: &[u8], lies: u64, order: Order, cfa: u64, register: u64, place: Place) -> Fetched
+#[tactic(auto, unfolding(crate::specs::Computed::Step::fetched_of))]
+fn fetch(
+    stack: &[u8],
+    lies: u64,
+    order: Order,
+    cfa: u64,
+    register: u64,
+    place: Place,
+) -> Result<u64, Offset>
     ensures { result ≡ fetched_of stack.now lies order cfa register place }
 {
     let spot = spot_of(cfa, place);
     match place {
-        Place::Register => Fetched::Is(register),
+        Place::Register => Ok(register),
         Place::AtOffset(offset) => {
             fetched_at(offset, value_at(stack, lies, order, register, spot))
         }
@@ -50,19 +53,21 @@ fn fetch(stack: &[u8], lies: u64, order: Order, cfa: u64, register: u64, place: 
 }
 
 // 28, of one word.
+#[tactic(auto, unfolding(crate::specs::Computed::Step::outside_why))]
 fn outside(word: Needed, cfa: u64, offset: Offset, stack: &[u8], lies: u64) -> RowReason
     ensures { result ≡ outside_why word cfa offset stack.now lies }
 {
     RowReason::WordOutside {
-        word: word,
-        cfa: cfa,
-        offset: offset,
+        word,
+        cfa,
+        offset,
         stack: lies,
         length: stack.len() as u64,
     }
 }
 
 // The caller, by RA as it was read and FP.
+#[tactic(auto, unfolding(crate::specs::Computed::Step::caller_why))]
 fn caller_of(registers: Registers, mask: u64, cfa: u64, ra: u64, fp: u64) -> RowReason
     ensures { result ≡ caller_why registers mask cfa ra fp }
 {
@@ -70,16 +75,17 @@ fn caller_of(registers: Registers, mask: u64, cfa: u64, ra: u64, fp: u64) -> Row
         caller: Registers {
             pc: clear(mask, ra),
             sp: caller_sp(cfa),
-            fp: fp,
+            fp,
             lr: registers.lr,
             first: 0,
         },
-        cfa: cfa,
-        ra: ra,
+        cfa,
+        ra,
     }
 }
 
 // 28 of FP's word, or the caller.
+#[tactic(auto, unfolding(crate::specs::Computed::Step::with_ra))]
 fn with_ra(
     registers: Registers,
     stack: &[u8],
@@ -87,35 +93,37 @@ fn with_ra(
     mask: u64,
     cfa: u64,
     ra: u64,
-    fp: Fetched,
+    fp: Result<u64, Offset>,
 ) -> RowReason
     ensures { result ≡ with_ra registers stack.now lies mask cfa ra fp }
 {
     match fp {
-        Fetched::Missing(offset) => outside(Needed::Fp, cfa, offset, stack, lies),
-        Fetched::Is(value) => caller_of(registers, mask, cfa, ra, value),
+        Err(offset) => outside(Needed::Fp, cfa, offset, stack, lies),
+        Ok(value) => caller_of(registers, mask, cfa, ra, value),
     }
 }
 
 // RA's word is tried before FP's.
+#[tactic(auto, unfolding(crate::specs::Computed::Step::from_words))]
 fn from_words(
     registers: Registers,
     stack: &[u8],
     lies: u64,
     mask: u64,
     cfa: u64,
-    ra: Fetched,
-    fp: Fetched,
+    ra: Result<u64, Offset>,
+    fp: Result<u64, Offset>,
 ) -> RowReason
     ensures { result ≡ from_words registers stack.now lies mask cfa ra fp }
 {
     match ra {
-        Fetched::Missing(offset) => outside(Needed::Ra, cfa, offset, stack, lies),
-        Fetched::Is(value) => with_ra(registers, stack, lies, mask, cfa, value, fp),
+        Err(offset) => outside(Needed::Ra, cfa, offset, stack, lies),
+        Ok(value) => with_ra(registers, stack, lies, mask, cfa, value, fp),
     }
 }
 
 // 27, then the words.
+#[tactic(auto, unfolding(crate::specs::Computed::Step::from_high))]
 fn from_high(
     shape: Shape,
     stack: &[u8],
@@ -142,6 +150,7 @@ fn from_high(
 }
 
 // 26, then what follows.
+#[tactic(auto, unfolding(crate::specs::Computed::Step::from_cfa_why))]
 fn from_cfa(
     shape: Shape,
     stack: &[u8],
@@ -164,6 +173,7 @@ fn from_cfa(
 }
 
 // What a row comes to, with no section at hand: 24, 25 and what follows.
+#[tactic(auto, unfolding(crate::specs::Computed::Step::from_row_why, crate::specs::Computed::Step::by_address))]
 pub fn explain_row(
     shape: Shape,
     stack: &[u8],
@@ -184,13 +194,14 @@ pub fn explain_row(
     match cfa_of(registers, row) {
         Address::Outside => RowReason::CfaOutside {
             base: base_value(registers, base),
-            offset: offset,
+            offset,
         },
         Address::At(cfa) => from_cfa(shape, stack, process, registers, row, cfa),
     }
 }
 
 // The step from what was looked up at a PC.
+#[tactic(auto, unfolding(crate::specs::Computed::Step::by_looked, crate::specs::Computed::Step::by_reason))]
 fn by_looked(
     shape: Shape,
     stack: &[u8],
@@ -204,33 +215,31 @@ fn by_looked(
     let looked = why.looked;
     let coverers = why.coverers;
     match looked {
-        Looked::NotFound(missing) => StepWhy {
-            reason: StepReason::NotFound {
-                pc: pc,
-                why: missing,
-            },
-            coverers: coverers,
+        Err(missing) => StepWhy {
+            reason: StepReason::NotFound { pc, why: missing },
+            coverers,
         },
-        Looked::Found(found) => {
+        Ok(found) => {
             let row = found.row;
             StepWhy {
                 reason: StepReason::FromRow {
-                    found: found,
+                    found,
                     reason: explain_row(shape, stack, process, registers, row),
-                    pc: pc,
+                    pc,
                 },
-                coverers: coverers,
+                coverers,
             }
         }
     }
 }
 
 // Without a lookup, nobody stands beside.
+#[tactic(auto, unfolding(crate::specs::Computed::Step::unlooked_why))]
 fn unlooked(reason: StepReason) -> StepWhy
     ensures { result ≡ unlooked_why reason }
 {
     StepWhy {
-        reason: reason,
+        reason,
         coverers: no_coverers(),
     }
 }
@@ -265,10 +274,7 @@ pub fn explain_step(section: &[u8], stack: &[u8], process: Process, registers: R
         });
     }
     match check(section) {
-        Verdict::Refused { number, index } => unlooked(StepReason::Unsound {
-            number: number,
-            index: index,
-        }),
+        Verdict::Refused { number, index } => unlooked(StepReason::Unsound { number, index }),
         Verdict::Accepted => {
             explain_checked(section, layout_at(section), stack, process, registers)
         }

@@ -12,26 +12,31 @@ pub enum Sum {
     Above(u64),
 }
 
+#[tactic(auto, unfolding(crate::specs::Computed::Sum::sum_up))]
 fn raised_by(base: u64, by: u64) -> Sum
     ensures { result ≡ sum_up base by }
 {
     let room = u64::MAX - base;
     if by <= room {
-        return Sum::At(base + by);
+        Sum::At(base + by)
+    } else {
+        Sum::Above(by - room)
     }
-    Sum::Above(by - room)
 }
 
+#[tactic(auto, unfolding(crate::specs::Computed::Sum::sum_down))]
 fn lowered_by(base: u64, by: u64) -> Sum
     ensures { result ≡ sum_down base by }
 {
     if by <= base {
-        return Sum::At(base - by);
+        Sum::At(base - by)
+    } else {
+        Sum::Below(by - base)
     }
-    Sum::Below(by - base)
 }
 
 // Never wrapped.
+#[tactic(auto, unfolding(crate::specs::Computed::Sum::sum_of, crate::specs::Computed::Sum::sum_by))]
 pub fn sum_of(base: u64, offset: Offset) -> Sum
     ensures { result ≡ sum_of base offset.by }
 {

@@ -4,47 +4,39 @@ use caller::registers::Registers;
 use numbers::offset::Offset;
 use section::row::Row;
 
-// Where a row starts, or that the function has no such row.
+// A covered address, as an offset from the section's first byte, with the lowest function that covers it.
 #[derive(Clone, Copy)]
-pub enum RowStart {
-    Is(u64),
-    Missing,
-}
-
-// The covered address nearest on one side of a PC, as an offset from the section's first byte, with the lowest function that covers it;
-// or that no address on that side is covered.
-#[derive(Clone, Copy)]
-pub enum Nearest {
-    Covered { offset: Offset, function: u64 },
-    Nothing,
+pub struct Covered {
+    pub offset: Offset,
+    pub function: u64,
 }
 
 // The row that was found: its function, the offset that rows were compared with, the row with its number, and where the next row of the
-// same function starts.
+// same function starts, if there is one.
 #[derive(Clone, Copy)]
 pub struct FoundRow {
     pub row: Row,
     pub function: u64,
     pub number: u64,
     pub offset: u64,
-    pub next: RowStart,
+    pub next: Option<u64>,
 }
 
 // Why no row was found.
 #[derive(Clone, Copy)]
 pub enum NotFound {
-    // 21: nothing at the PC is covered, and these are the nearest addresses that are.
+    // 21: nothing at the PC is covered, and these are the nearest addresses that are, if any on a side is.
     NoFunction {
-        below: Nearest,
-        above: Nearest,
+        below: Option<Covered>,
+        above: Option<Covered>,
     },
     // 22: which functions cover stands beside, in `Coverers`.
     Dispute,
-    // 23: the function, the offset used, and where its first row starts.
+    // 23: the function, the offset used, and where its first row starts, if it has rows.
     NoRow {
         function: u64,
         offset: u64,
-        first: RowStart,
+        first: Option<u64>,
     },
 }
 
@@ -58,14 +50,8 @@ pub struct Coverers {
 
 // What a lookup comes to in a section that is accepted.
 #[derive(Clone, Copy)]
-pub enum Looked {
-    Found(FoundRow),
-    NotFound(NotFound),
-}
-
-#[derive(Clone, Copy)]
 pub struct LookedWhy {
-    pub looked: Looked,
+    pub looked: Result<FoundRow, NotFound>,
     pub coverers: Coverers,
 }
 
@@ -75,7 +61,7 @@ pub enum LookupReason {
     // 1 to 15: the section breaks this rule first, at the entry with this index.
     Unsound { number: u64, index: u64 },
     // The section is accepted.
-    Accepted(Looked),
+    Accepted(Result<FoundRow, NotFound>),
 }
 
 #[derive(Clone, Copy)]

@@ -30,6 +30,7 @@ fn left_over(past: u64, size: u8) -> u64
 }
 
 // The offset that a row's start is compared with, of a PC that is `past` the function's start.
+#[tactic(auto, unfolding(crate::specs::Computed::Rows::in_block, section::specs::Meaning::block_of))]
 pub fn block_offset(entry: Entry, past: u64) -> u64
     requires { repeats entry.info ≡ true → 0 < entry.repeat }
     ensures { result ≡ in_block (block_of entry) past }
@@ -78,6 +79,7 @@ fn row_for(section: &[u8], layout: Layout, i: u64, address: u64, pc: u64) -> Opt
     )
 }
 
+#[tactic(auto, unfolding(crate::specs::Computed::Answers::with_row))]
 fn with_row(function: u64, scan: Option<Hit>) -> Result<Found, Unfound>
     ensures { outcome_told result ≡ with_row function scan }
 {

@@ -36,6 +36,7 @@ pub struct Told {
 }
 
 // Whether the row at `at` starts at or below o.
+#[tactic(auto, unfolding(crate::specs::Inner::Search::starts_by, section::specs::Row::row_start))]
 fn starts_by(area: &[u8], order: Order, code: usize, at: usize, o: u64) -> bool
     requires { (code ≤ 2) × (at + 2 ^ code ≤ length area.now) }
     ensures { result ≡ starts_by area.now order code o at }
@@ -44,6 +45,7 @@ fn starts_by(area: &[u8], order: Order, code: usize, at: usize, o: u64) -> bool
 }
 
 // What an info byte that announces no offsets tells.
+#[tactic(auto, unfolding(crate::specs::Inner::Search::told_by, section::specs::Row::offsets_length, section::specs::Row::count_of, section::specs::Row::offset_size_of))]
 fn no_offsets(code: usize) -> Told
     requires { code ≤ 2 }
     ensures { result ≡ told_by code 0 }
@@ -56,6 +58,7 @@ fn no_offsets(code: usize) -> Told
 
 // What the info byte of the row at `at` tells. Where it is the one that is known, its length is not worked out again: the place of
 // the row behind then does not wait for this row's byte, since the processor guesses that it is the same.
+#[tactic(auto, unfolding(crate::specs::Inner::Search::told_by, section::specs::Row::row_length))]
 fn told_at(area: &[u8], code: usize, at: usize, known: Told) -> Told
     requires { (code ≤ 2) × (at + 2 ^ code + 1 ≤ length area.now) × (known ≡ told_by code known.info) }
     ensures { result ≡ told_by code (info_of area.now code at) }

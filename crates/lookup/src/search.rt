@@ -64,6 +64,7 @@ fn size_at(section: &[u8], layout: Layout, order: Order, i: u64) -> u32
 
 // How far d is past a start. Before the start it is 2^64 less what is missing, farther than any size, so that one comparison
 // with a size tells whether a function covers; it compiles to one subtraction.
+#[tactic(auto, unfolding(crate::specs::Inner::Search::past_start))]
 fn past_start(start: u64, d: u64) -> u64
     ensures { result ≡ past_start start d }
 {

@@ -64,10 +64,7 @@ fn flag_weight(set: bool) -> u64
     ensures value { result ≡ flag_weight set }
     ensures range { result < 2 ^ 32 }
 {
-    if set {
-        return 1;
-    }
-    0
+    set as u64
 }
 
 pub fn row_weight(row: Row) -> u64
@@ -116,11 +113,9 @@ fn digest_of(section: &[u8], layout: Layout, address: u64, pcs: &[u64]) -> u64
     ensures { result ≡ digest_from section.now address 0 pcs.now }
 {
     let mut digest = 0;
-    let mut k = 0;
-    while k < pcs.len() {
-        let answer = look(section, layout, address, pcs[k]);
+    for pc in pcs {
+        let answer = look(section, layout, address, *pc);
         digest = (digest * 31 + weight_of(answer)) % 0x1_0000_0000;
-        k = k + 1;
     }
     digest
 }
@@ -130,8 +125,8 @@ pub fn measure_finds(section: &[u8], address: u64, pcs: &[u64]) -> Measured
 {
     match check(section) {
         Verdict::Refused { number, index } => Measured {
-            number: number,
-            index: index,
+            number,
+            index,
             digest: 0,
         },
         Verdict::Accepted => Measured {

@@ -7,9 +7,9 @@ ghost use Rattle.numbers.specs.Start.{start_at, distance};
 use crate::offset::Offset;
 
 // How far above its value a start is held: 2^32.
-const LIFT: u64 = 0x1_0000_0000;
+pub const LIFT: u64 = 0x1_0000_0000;
 // Above every start and every end, as they are held: 2^34.
-const FAR: u64 = 0x4_0000_0000;
+pub const FAR: u64 = 0x4_0000_0000;
 // The least field of 4 bytes that stands for a negative number: 2^31.
 const NEGATIVE: u64 = 0x8000_0000;
 

@@ -1,14 +1,14 @@
 // The row that was found, with the function and the offset that it was found by.
 use crate::line::{add, add_number, add_offset};
-use explain::why::{FoundRow, RowStart};
+use explain::why::FoundRow;
 use numbers::offset::Offset;
 use section::row::{Base, Place, Row};
 
-// Where a row starts, behind its name.
-pub fn add_start(line: &mut [u8], at: usize, name: &[u8], start: RowStart) -> usize {
+// Where a row starts, if there is one, behind its name.
+pub fn add_start(line: &mut [u8], at: usize, name: &[u8], start: Option<u64>) -> usize {
     match start {
-        RowStart::Is(start) => add_number(line, at, name, start),
-        RowStart::Missing => {
+        Some(start) => add_number(line, at, name, start),
+        None => {
             let end = add(line, at, name);
             add(line, end, b"none")
         }

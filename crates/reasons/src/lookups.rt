@@ -4,7 +4,7 @@ ghost use Rattle.std.specs.Prelude.{◌≤◌};
 use crate::found::{add_found, add_start};
 use crate::line::{add, add_number, add_offset};
 use explain::looked::explain_lookup;
-use explain::why::{Coverers, Looked, LookupReason, Nearest, NotFound};
+use explain::why::{Covered, Coverers, FoundRow, LookupReason, NotFound};
 
 // 1 to 15, of a lookup and of a step alike.
 pub fn add_refused(line: &mut [u8], at: usize, number: u64, index: u64) -> usize {
@@ -13,13 +13,13 @@ pub fn add_refused(line: &mut [u8], at: usize, number: u64, index: u64) -> usize
 }
 
 // The covered address nearest on one side, behind the side's name.
-fn add_near(line: &mut [u8], at: usize, name: &[u8], near: Nearest) -> usize {
+fn add_near(line: &mut [u8], at: usize, name: &[u8], near: Option<Covered>) -> usize {
     match near {
-        Nearest::Covered { offset, function } => {
+        Some(Covered { offset, function }) => {
             let end = add_offset(line, at, name, offset);
             add_number(line, end, b" function ", function)
         }
-        Nearest::Nothing => {
+        None => {
             let end = add(line, at, name);
             add(line, end, b"none")
         }
@@ -71,10 +71,15 @@ pub fn add_not_found(line: &mut [u8], at: usize, why: NotFound, coverers: Covere
     }
 }
 
-fn add_looked(line: &mut [u8], at: usize, looked: Looked, coverers: Coverers) -> usize {
+fn add_looked(
+    line: &mut [u8],
+    at: usize,
+    looked: Result<FoundRow, NotFound>,
+    coverers: Coverers,
+) -> usize {
     match looked {
-        Looked::Found(found) => add_found(line, at, found),
-        Looked::NotFound(why) => add_not_found(line, at, why, coverers),
+        Ok(found) => add_found(line, at, found),
+        Err(why) => add_not_found(line, at, why, coverers),
     }
 }
 

@@ -8,7 +8,7 @@ use crate::say::say;
 use crate::sentence::{say_with_bytes, say_with_distance, say_with_number};
 use crate::show::{say_cfa, say_place, show_which};
 use explain::looked::explain_lookup;
-use explain::why::{Coverers, FoundRow, Looked, LookupReason, Nearest, NotFound, RowStart};
+use explain::why::{Covered, Coverers, FoundRow, LookupReason, NotFound};
 use listing::function::{Described, Facts, Kind, function_at};
 use numbers::offset::{Shift, shift_of};
 use section::row::Row;
@@ -77,17 +77,17 @@ fn show_function(console: &Console, section: &[u8], function: u64, offset: u64) 
     }
 }
 
-fn say_next(console: &Console, next: RowStart) {
+fn say_next(console: &Console, next: Option<u64>) {
     match next {
-        RowStart::Is(start) => {
+        Some(start) => {
             say_with_number(console, b"the next row starts at ", start);
             say(console, b", above it");
         }
-        RowStart::Missing => say(console, b"there is no next row"),
+        None => say(console, b"there is no next row"),
     }
 }
 
-fn show_row_used(console: &Console, number: u64, start: u64, next: RowStart) {
+fn show_row_used(console: &Console, number: u64, start: u64, next: Option<u64>) {
     say_with_number(console, b"  row ", number);
     say_with_number(console, b" starts at ", start);
     say(console, b", not above the offset used, and ");
@@ -122,21 +122,21 @@ pub fn show_found_why(console: &Console, section: &[u8], found: FoundRow) {
 }
 
 // The covered address nearest on one side: `covered` begins the sentence, and `nothing` is the one where there is none.
-fn show_near(console: &Console, near: Nearest, covered: &[u8], nothing: &[u8]) {
+fn show_near(console: &Console, near: Option<Covered>, covered: &[u8], nothing: &[u8]) {
     match near {
-        Nearest::Covered { offset, function } => {
+        Some(Covered { offset, function }) => {
             say_with_distance(console, covered, shift_of(offset));
             say_with_number(console, b", by function ", function);
             say(console, b"\n");
         }
-        Nearest::Nothing => say(console, nothing),
+        None => say(console, nothing),
     }
 }
 
-fn is_covered(near: Nearest) -> bool {
+fn is_covered(near: Option<Covered>) -> bool {
     match near {
-        Nearest::Covered { offset, function } => true,
-        Nearest::Nothing => false,
+        Some(Covered { offset, function }) => true,
+        None => false,
     }
 }
 
@@ -160,7 +160,7 @@ fn show_uncovered(console: &Console, below: bool, above: bool) {
 }
 
 // 21.
-fn show_no_function(console: &Console, below: Nearest, above: Nearest) {
+fn show_no_function(console: &Console, below: Option<Covered>, above: Option<Covered>) {
     show_near(
         console,
         below,
@@ -213,13 +213,13 @@ fn show_dispute_why(console: &Console, coverers: Coverers) {
 }
 
 // 23.
-fn show_first(console: &Console, first: RowStart) {
+fn show_first(console: &Console, first: Option<u64>) {
     match first {
-        RowStart::Is(start) => {
+        Some(start) => {
             say_with_number(console, b"  its first row starts at ", start);
             say(console, b", above the offset used (SPECIFICATION 4.6)\n");
         }
-        RowStart::Missing => say(console, b"  it has no rows (SPECIFICATION 4.6)\n"),
+        None => say(console, b"  it has no rows (SPECIFICATION 4.6)\n"),
     }
 }
 
@@ -260,17 +260,17 @@ fn show_looked_why(
     section: &[u8],
     address: u64,
     pc: u64,
-    looked: Looked,
+    looked: Result<FoundRow, NotFound>,
     coverers: Coverers,
 ) {
     match looked {
-        Looked::Found(found) => {
+        Ok(found) => {
             let row = found.row;
             show_which(console, row, found.function, found.number);
             show_distance(console, b"  PC is ", address, pc);
             show_found_why(console, section, found);
         }
-        Looked::NotFound(why) => {
+        Err(why) => {
             show_not_found(console, why);
             show_distance(console, b"  PC is ", address, pc);
             show_not_found_why(console, section, why, coverers);

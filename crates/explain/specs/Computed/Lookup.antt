@@ -1,5 +1,5 @@
 -- Why a lookup gives its answer, by its cases. That what is said holds, and implies the answer, is proved of Why.
-use Rattle.std.specs.Prelude.{ℕ, ◌+◌, true, false, List, ltb, ℤ}
+use Rattle.std.specs.Prelude.{ℕ, ◌+◌, true, false, List, ltb, ℤ, Option, Some, None, Result, Ok, Err}
 use Rattle.numbers.specs.Start.{distance}
 use Rattle.section.specs.Entry.{type_of}
 use Rattle.section.specs.Meaning.{area_of, shape_of, entry_in, function_in, functions_of}
@@ -11,43 +11,39 @@ use Rattle.accept.specs.Verdict.{Verdict}
 use Rattle.accept.specs.Verdict as verdict
 use Rattle.lookup.specs.Computed.Covering.{covering, cover_of}
 use Rattle.lookup.specs.Computed.Rows.{offset_within, row_for}
-use Rattle.lookup.specs.declared.rows.Scan.{Scan}
-use Rattle.lookup.specs.declared.rows.Scan.TheVariants.{Missed, Hit}
+use Rattle.lookup.specs.declared.rows.Hit.{Hit}
 use Rattle.lookup.specs.declared.search.Cover.{Cover}
 use Rattle.lookup.specs.declared.search.Cover.TheVariants.{Nobody, One, Two}
 use Rattle.explain.specs.Computed.Coverers.{no_coverers, coverers_in}
 use Rattle.explain.specs.Computed.Nearest.{nearest_in}
 use Rattle.explain.specs.declared.nearby.Side.TheVariants.{Below, Above}
-use Rattle.explain.specs.declared.why.Looked.{Looked}
-use Rattle.explain.specs.declared.why.Looked.TheVariants as looked
+use Rattle.explain.specs.declared.why.FoundRow.{FoundRow}
 use Rattle.explain.specs.declared.why.LookedWhy.{LookedWhy}
 use Rattle.explain.specs.declared.why.LookupReason.TheVariants as reason
 use Rattle.explain.specs.declared.why.LookupWhy.{LookupWhy}
 use Rattle.explain.specs.declared.why.NotFound.{NotFound}
 use Rattle.explain.specs.declared.why.NotFound.TheVariants as missing
-use Rattle.explain.specs.declared.why.RowStart.{RowStart}
-use Rattle.explain.specs.declared.why.RowStart.TheVariants.{Is, Missing}
 
 -- where row k of an entry starts, if there is one
-unfoldable pub start_in : List ℕ → Shape → Entry → ℕ → RowStart
+unfoldable pub start_in : List ℕ → Shape → Entry → ℕ → Option ℕ
 start_in area shape entry k =
     elim (ltb k entry.rows) [
-      | true ↦ Is (row_start area shape.order (type_of entry.info) (row_place area (type_of entry.info) entry.first k))
-      | false ↦ Missing
+      | true ↦ Some (row_start area shape.order (type_of entry.info) (row_place area (type_of entry.info) entry.first k))
+      | false ↦ None
     ]
 
 -- "For 23: the function, the offset used, and its first row's start or that it has no rows." "For a found row: the function, the offset
 -- used, the row, and the next row's start if there is one."
-unfoldable pub by_scan : List ℕ → Shape → Entry → ℕ → ℕ → Scan → Looked
-by_scan area shape entry i o Missed = looked.NotFound (missing.NoRow i o (start_in area shape entry 0))
-by_scan area shape entry i o (Hit row number) =
-    looked.Found (record { row = row; function = i; number = number; offset = o; next = start_in area shape entry (number + 1) })
+unfoldable pub by_scan : List ℕ → Shape → Entry → ℕ → ℕ → Option Hit → Result FoundRow NotFound
+by_scan area shape entry i o None = Err (missing.NoRow i o (start_in area shape entry 0))
+by_scan area shape entry i o (Some hit) =
+    Ok (record { row = hit.row; function = i; number = hit.number; offset = o; next = start_in area shape entry (hit.number + 1) })
 
 -- what function i comes to, which alone covers
-unfoldable pub in_function : List ℕ → ℤ → ℕ → Looked
+unfoldable pub in_function : List ℕ → ℤ → ℕ → Result FoundRow NotFound
 in_function s d i = by_scan (area_of s) (shape_of s) (entry_in s i) i (offset_within d (function_in s i)) (row_for d (function_in s i))
 
-unfoldable pub alone_why : Looked → LookedWhy
+unfoldable pub alone_why : Result FoundRow NotFound → LookedWhy
 alone_why looked = record { looked = looked; coverers = no_coverers }
 
 -- "For 21 ..: the covered address nearest below PC and the nearest above"
@@ -56,9 +52,9 @@ no_function_why s d = missing.NoFunction (nearest_in s Below d) (nearest_in s Ab
 
 -- by how many cover; "For 22: the indexes of all covering functions"
 unfoldable pub by_cover : List ℕ → ℤ → Cover → LookedWhy
-by_cover s d Nobody = alone_why (looked.NotFound (no_function_why s d))
+by_cover s d Nobody = alone_why (Err (no_function_why s d))
 by_cover s d (One i) = alone_why (in_function s d i)
-by_cover s d (Two i j) = record { looked = looked.NotFound missing.Dispute; coverers = coverers_in s d }
+by_cover s d (Two i j) = record { looked = Err missing.Dispute; coverers = coverers_in s d }
 
 -- in a section that was accepted, at d
 unfoldable pub looked_of : List ℕ → ℤ → LookedWhy

@@ -1,6 +1,6 @@
 -- Why a step gives its answer, in the step's order: the first rule that refuses, with the numbers that it compares. That what is said
 -- holds, and implies the answer, is proved of Why.
-use Rattle.std.specs.Prelude.{ℕ, true, false, List, length, Option, Some, None}
+use Rattle.std.specs.Prelude.{ℕ, true, false, List, length, Option, Some, None, Result, Ok, Err}
 use Rattle.numbers.specs.Start.{distance}
 use Rattle.numbers.specs.Computed.Address.{in_memory, window_fits}
 use Rattle.numbers.specs.declared.field.Order.{Order}
@@ -20,13 +20,11 @@ use Rattle.caller.specs.declared.registers.Process.{Process}
 use Rattle.caller.specs.declared.registers.Registers.{Registers}
 use Rattle.explain.specs.Computed.Coverers.{no_coverers}
 use Rattle.explain.specs.Computed.Lookup.{looked_of}
-use Rattle.explain.specs.declared.stepped.Fetched.{Fetched}
-use Rattle.explain.specs.declared.stepped.Fetched.TheVariants.{Is, Missing}
-use Rattle.explain.specs.declared.why.Looked.{Looked}
-use Rattle.explain.specs.declared.why.Looked.TheVariants as looked
+use Rattle.explain.specs.declared.why.FoundRow.{FoundRow}
 use Rattle.explain.specs.declared.why.LookedWhy.{LookedWhy}
 use Rattle.explain.specs.declared.why.Needed.{Needed}
 use Rattle.explain.specs.declared.why.Needed.TheVariants.{Ra, Fp}
+use Rattle.explain.specs.declared.why.NotFound.{NotFound}
 use Rattle.explain.specs.declared.why.RowReason.{RowReason}
 use Rattle.explain.specs.declared.why.RowReason.TheVariants.{Caller, Signed, CfaOutside, CfaLow, RaLost, WordOutside}
 use Rattle.explain.specs.declared.why.StepReason.{StepReason}
@@ -35,12 +33,12 @@ use Rattle.explain.specs.declared.why.StepWhy.{StepWhy}
 
 -- ---- what stands at a saved place, or the offset of a word that is not wholly inside the window
 
-unfoldable pub fetched_at : Offset → Option ℕ → Fetched
-fetched_at offset (Some value) = Is value
-fetched_at offset None = Missing offset
+unfoldable pub fetched_at : Offset → Option ℕ → Result ℕ Offset
+fetched_at offset (Some value) = Ok value
+fetched_at offset None = Err offset
 
-unfoldable pub fetched_of : List ℕ → ℕ → Order → ℕ → ℕ → Place → Fetched
-fetched_of stack lies order cfa register Register = Is register
+unfoldable pub fetched_of : List ℕ → ℕ → Order → ℕ → ℕ → Place → Result ℕ Offset
+fetched_of stack lies order cfa register Register = Ok register
 fetched_of stack lies order cfa register (AtOffset offset) =
     fetched_at offset (value_of stack lies order register (spot_of cfa (AtOffset offset)))
 
@@ -55,14 +53,14 @@ unfoldable pub caller_why : Registers → ℕ → ℕ → ℕ → ℕ → RowRea
 caller_why registers mask cfa ra fp =
     Caller (record { pc = clear mask ra; sp = caller_sp cfa; fp = fp; lr = registers.lr; first = 0 }) cfa ra
 
-unfoldable pub with_ra : Registers → List ℕ → ℕ → ℕ → ℕ → ℕ → Fetched → RowReason
-with_ra registers stack lies mask cfa ra (Missing offset) = outside_why Fp cfa offset stack lies
-with_ra registers stack lies mask cfa ra (Is fp) = caller_why registers mask cfa ra fp
+unfoldable pub with_ra : Registers → List ℕ → ℕ → ℕ → ℕ → ℕ → Result ℕ Offset → RowReason
+with_ra registers stack lies mask cfa ra (Err offset) = outside_why Fp cfa offset stack lies
+with_ra registers stack lies mask cfa ra (Ok fp) = caller_why registers mask cfa ra fp
 
 -- "a needed word (RA first)"
-unfoldable pub from_words : Registers → List ℕ → ℕ → ℕ → ℕ → Fetched → Fetched → RowReason
-from_words registers stack lies mask cfa (Missing offset) fp = outside_why Ra cfa offset stack lies
-from_words registers stack lies mask cfa (Is ra) fp = with_ra registers stack lies mask cfa ra fp
+unfoldable pub from_words : Registers → List ℕ → ℕ → ℕ → ℕ → Result ℕ Offset → Result ℕ Offset → RowReason
+from_words registers stack lies mask cfa (Err offset) fp = outside_why Ra cfa offset stack lies
+from_words registers stack lies mask cfa (Ok ra) fp = with_ra registers stack lies mask cfa ra fp
 
 -- "27 that RA has no place, and the mark"
 unfoldable pub from_high : Shape → List ℕ → Process → Registers → Row → ℕ → RowReason
@@ -98,9 +96,9 @@ from_row_why shape stack process registers row =
 -- ---- the step
 
 -- "21 to 23 of a step as of a lookup", and the row that it finds
-unfoldable pub by_reason : Shape → List ℕ → Process → Registers → ℕ → Looked → StepReason
-by_reason shape stack process registers pc (looked.NotFound missing) = reason.NotFound pc missing
-by_reason shape stack process registers pc (looked.Found found) =
+unfoldable pub by_reason : Shape → List ℕ → Process → Registers → ℕ → Result FoundRow NotFound → StepReason
+by_reason shape stack process registers pc (Err missing) = reason.NotFound pc missing
+by_reason shape stack process registers pc (Ok found) =
     reason.FromRow found (from_row_why shape stack process registers found.row) pc
 
 unfoldable pub by_looked : Shape → List ℕ → Process → Registers → ℕ → LookedWhy → StepWhy

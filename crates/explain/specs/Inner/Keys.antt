@@ -1,10 +1,9 @@
 -- How the code looks for the nearest covered address: each function has a key, by how its start is held, and the largest is nearest.
-use Rattle.std.specs.Prelude.{ℕ, ◌+◌, ◌-◌, ◌^◌, true, false, leb, ltb, eqb, pos, ◌-ℤ◌}
+use Rattle.std.specs.Prelude.{ℕ, ◌+◌, ◌-◌, ◌^◌, true, false, leb, ltb, eqb, pos, ◌-ℤ◌, Option, Some, None}
 use Rattle.explain.specs.declared.nearby.Best.{Best}
 use Rattle.explain.specs.declared.nearby.Side.{Side}
 use Rattle.explain.specs.declared.nearby.Side.TheVariants.{Below, Above}
-use Rattle.explain.specs.declared.why.Nearest.{Nearest}
-use Rattle.explain.specs.declared.why.Nearest.TheVariants.{Covered, Nothing}
+use Rattle.explain.specs.declared.why.Covered.{Covered}
 
 -- the key of a function that is not empty: below d its end, above d how far it starts from 2 ^ 34, and 0 where it is not on that side
 unfoldable pub side_key : Side → ℕ → ℕ → ℕ → ℕ
@@ -23,7 +22,7 @@ unfoldable pub held_of : Side → ℕ → ℕ
 held_of Below key = key - 1
 held_of Above key = 2 ^ 34 - key
 
-unfoldable pub nearest_of : Side → Best → Nearest
+unfoldable pub nearest_of : Side → Best → Option Covered
 nearest_of side best =
     elim (eqb best.key 0)
-    [ true ↦ Nothing | false ↦ Covered (record { by = pos (held_of side best.key) -ℤ pos (2 ^ 32) }) best.function ]
+    [ true ↦ None | false ↦ Some (record { offset = record { by = pos (held_of side best.key) -ℤ pos (2 ^ 32) }; function = best.function }) ]

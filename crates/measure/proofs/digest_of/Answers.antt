@@ -2,23 +2,19 @@
 -- Assumes nothing.
 use native.Mathlib.Numerals.{add-one}
 use native.Mathlib.Omega.{arith}
-use mathlib.Core.Path.{refl}
 use Prim.Native.Nat.{ℕ}
 use lib.ListN.{drop_of_length-le}
 use lib.Seq.{drop-cons}
 use Rattle.measure.specs.Digest.{digest_from}
 use Rattle.measure.proofs.digest_of.Goals as goal
 
-pub loop-k-init : goal.loop-k-init
-loop-k-init c = (omega arith, refl)
-
-pub loop-k-preserved : goal.loop-k-preserved
+pub loop-pc-preserved : goal.loop-pc-preserved
 unfolding digest_from
-loop-k-preserved c =
-    let loop = c.loop-k in
-    let left = rw (drop-cons {A = ℕ} _ loop.k 0 c.loop-k-test.true) at loop.invariant.1 in
-    (omega arith, rw (add-one loop.k, c.weight_of.ensures.value, c.look-answer.ensures) left)
+loop-pc-preserved c =
+    let loop = c.loop-pc in
+    let left = rw (drop-cons {A = ℕ} _ loop.pc-index 0 c.loop-pc-test.true) at loop.invariant.1 in
+    (omega arith, rw (add-one loop.pc-index, c.weight_of.ensures.value, c.look-answer.ensures) left)
 
 pub returns : goal.returns
 unfolding digest_from
-returns c = rw (drop_of_length-le _ c.loop-k-test.false) at c.loop-k.invariant.1
+returns c = rw (drop_of_length-le _ c.loop-pc-test.false) at c.loop-pc.invariant.1

@@ -2,7 +2,6 @@
 -- Assumes nothing.
 use mathlib.Core.Path.{sym, ◌∙◌}
 use Rattle.accept.proofs.AcceptedLaws.{accepted_laws}
-use Rattle.measure.specs.Digest.{measured_by, measured_of}
 use Rattle.measure.proofs.measure_finds.Goals as goal
 
 pub layout_at-requires : goal.layout_at-requires
@@ -11,12 +10,3 @@ layout_at-requires c = (accepted_laws _ (sym c.check.ensures ∙ c.in-Accepted.i
 pub digest_of-requires : goal.digest_of-requires
 digest_of-requires c =
     record { accepted = sym c.check.ensures ∙ c.in-Accepted.is; layout_is = c.layout_at.ensures }
-
-pub returns-in-Refused : goal.returns-in-Refused
-unfolding measured_by measured_of
-returns-in-Refused c = rw (sym c.check.ensures ∙ c.in-Refused.is)
-
-pub returns-in-Accepted : goal.returns-in-Accepted
-unfolding measured_by measured_of
-returns-in-Accepted c =
-    rw (sym c.check.ensures ∙ c.in-Accepted.is, c.digest_of.ensures)

@@ -8,23 +8,18 @@ use Rattle.explain.proofs.coverers.all_covering.Goals as goal
 
 pub loop-i-init : goal.loop-i-init
 unfolding no_coverers
-loop-i-init c = (omega arith, rw c.no_coverers-known.ensures (omega arith), each_begins _ _ c.no_coverers-known.ensures)
+loop-i-init c = (rw c.no_coverers-known.ensures (omega arith), each_begins _ _ c.no_coverers-known.ensures)
 
 pub covers_pc-covers-requires : goal.covers_pc-covers-requires
 covers_pc-covers-requires c = (c.requires, c.loop-i-test.true)
 
-pub with_if-known-requires : goal.with_if-known-requires
-with_if-known-requires c =
-    omega (arith, c.loop-i.invariant.1, c.loop-i-test.true, c.struct_known-1.given)
-
 pub loop-i-preserved : goal.loop-i-preserved
 loop-i-preserved c = (
-  omega (arith, c.loop-i-test.true),
-  rw c.with_if-known.ensures (count_kept _ _ _ c.loop-i.invariant.1),
-  each_next _ _ _ c.loop-i-test.true (rw (← c.covers_pc-covers.ensures) c.with_if-known.ensures) c.loop-i.invariant.2,
+  rw c.with_if-known.ensures (count_kept _ _ _ c.loop-i.invariant.0),
+  each_next _ _ _ c.loop-i-test.true (rw (← c.covers_pc-covers.ensures) c.with_if-known.ensures) c.loop-i.invariant.1,
 )
 
 pub returns : goal.returns
 unfolding coverers_in
 returns c =
-    rw (← c.requires.layout_is) (each_ends _ _ _ c.loop-i-test.false c.loop-i.invariant.2)
+    rw (← c.requires.layout_is) (each_ends _ _ _ c.loop-i-test.false c.loop-i.invariant.1)

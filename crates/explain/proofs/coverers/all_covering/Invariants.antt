@@ -12,10 +12,6 @@ use Rattle.explain.proofs.coverers.all_covering.Given as goal
 -- as many are known as there were functions, at most
 abbrev pub invariant-loop-i : goal.invariant-loop-i
 invariant-loop-i l =
-    (l.i ≤ l.layout.functions)
-    × (l.known.count ≤ l.i)
+    (l.known.count ≤ l.i)
     × (each (λ known j. with_if (covers (distance l.address l.pc) (function_in l.section j)) j known) (l.layout.functions - l.i) l.i l.known
     ≡ each (λ known j. with_if (covers (distance l.address l.pc) (function_in l.section j)) j known) l.layout.functions 0 no_coverers)
-
-abbrev pub decreases-loop-i : goal.decreases-loop-i
-decreases-loop-i l = l.layout.functions - l.i

@@ -4,8 +4,8 @@ use mathlib.Core.Path.{sym, ◌∙◌}
 use Rattle.explain.proofs.CoversLaws.{covers_none, covers_some}
 use Rattle.explain.proofs.coverers.covers_pc.Goals as goal
 
-pub returns-in-Outside : goal.returns-in-Outside
-returns-in-Outside c = covers_none _ _ (sym c.past_in.ensures ∙ c.in-Outside.is)
+pub returns-in-None : goal.returns-in-None
+returns-in-None c = covers_none _ _ (sym c.past_in.ensures ∙ c.in-None.is)
 
-pub returns-in-By : goal.returns-in-By
-returns-in-By c = covers_some _ _ (sym c.past_in.ensures ∙ c.in-By.is)
+pub returns-in-Some : goal.returns-in-Some
+returns-in-Some c = covers_some _ _ (sym c.past_in.ensures ∙ c.in-Some.is)

@@ -11,11 +11,11 @@ use Rattle.explain.proofs.looked.row_place.Goals.{In-loop-j}
 
 pub loop-j-init : goal.loop-j-init
 unfolding row_place
-loop-j-init c = (omega arith, refl)
+loop-j-init c = refl
 
 readable : (c : In-loop-j)
     → Readable c.args.area.now c.args.code c.loop-j.at
-readable c = rw c.loop-j.invariant.1 (c.requires.0 _ c.loop-j-test.true)
+readable c = rw c.loop-j.invariant (c.requires.0 _ c.loop-j-test.true)
 
 pub row_length-at-requires : goal.row_length-at-requires
 row_length-at-requires c = ((readable c).type, (readable c).fixed)
@@ -25,7 +25,7 @@ overflow_add-at c = rw c.row_length-at.ensures (omega (arith, (readable (goal.at
 
 pub loop-j-preserved : goal.loop-j-preserved
 loop-j-preserved c =
-    (omega (arith, c.loop-j-test.true), rw (c.row_length-at.ensures, add-one c.loop-j.j) (place_next _ _ _ _ c.loop-j.invariant.1))
+    rw (c.row_length-at.ensures, add-one c.loop-j.j) (place_next _ _ _ _ c.loop-j.invariant)
 
 pub returns : goal.returns
-returns c = let same : c.loop-j.j ≡ c.args.k = omega (arith, c.loop-j-test.false, c.loop-j.invariant.0) in rw (← same) c.loop-j.invariant.1
+returns c = let same : c.loop-j.j ≡ c.args.k = omega arith in rw (← same) c.loop-j.invariant

@@ -3,14 +3,11 @@
 use borrow.Author.Rules.{rules}
 use native.Mathlib.Omega.{arith}
 use mathlib.Core.Path.{◌≡◌}
-use Prim.Native.Nat.{◌+◌, ◌*◌, ◌<◌, ◌^◌}
+use Prim.Native.Nat.{◌+◌, ◌<◌, ◌^◌}
 use Rattle.numbers.specs.Inner.Held.{rank}
 use Rattle.numbers.proofs.HeldLaws.{held_rank}
-use Rattle.lookup.proofs.TableLaws.{entry_room, entry_place, position_below, field_held}
+use Rattle.lookup.proofs.TableLaws.{entry_room, entry_place, field_held}
 use Rattle.lookup.proofs.search.rank_at.Goals as goal
-
-pub overflow_mul-place : goal.overflow_mul-place
-overflow_mul-place c = let pre = c.requires in omega (arith, entry_place pre.0.header _ pre.1)
 
 pub overflow_add-place : goal.overflow_add-place
 overflow_add-place c = let pre = c.requires in omega (arith, entry_place pre.0.header _ pre.1)
@@ -23,11 +20,6 @@ overflow_cast-place-2 c = let pre = c.requires in omega (arith, entry_place pre.
 
 pub u32_at-requires : goal.u32_at-requires
 u32_at-requires c = let pre = c.requires in omega (arith, entry_room pre.0.header _ pre.1)
-
-pub overflow_add-result : goal.overflow_add-result
-overflow_add-result c =
-    let pre = c.requires in
-    omega (arith, c.rank_of.ensures.range, c.position_at.ensures, position_below c.args.layout.relative (c.args.layout.table + 20 * c.args.i), entry_place pre.0.header _ pre.1)
 
 pub returns : goal.returns
 returns c =

@@ -4,9 +4,6 @@ use native.Mathlib.Omega.{arith}
 use Rattle.lookup.proofs.TableLaws.{entry_room, entry_place, size_field}
 use Rattle.lookup.proofs.search.size_at.Goals as goal
 
-pub overflow_mul-at : goal.overflow_mul-at
-overflow_mul-at c = let pre = c.requires in omega (arith, entry_place pre.0.header _ pre.1)
-
 pub overflow_add-at : goal.overflow_add-at
 overflow_add-at c = let pre = c.requires in omega (arith, entry_place pre.0.header _ pre.1)
 

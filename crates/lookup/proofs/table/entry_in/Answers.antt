@@ -5,9 +5,6 @@ use Rattle.section.specs.Meaning.{entry_in}
 use Rattle.lookup.proofs.TableLaws.{entry_room, entry_place}
 use Rattle.lookup.proofs.table.entry_in.Goals as goal
 
-pub overflow_mul-i : goal.overflow_mul-i
-overflow_mul-i c = let pre = c.requires in omega (arith, entry_place pre.0.header _ pre.1)
-
 pub overflow_add-layout : goal.overflow_add-layout
 overflow_add-layout c = let pre = c.requires in omega (arith, entry_place pre.0.header _ pre.1)
 
