@@ -4,11 +4,11 @@
 
 ghost use Rattle.std.specs.Prelude.{◌≡◌, ◌<◌, ◌*◌, ◌^◌};
 ghost use Rattle.lookup.specs.Inner.Requires.{AcceptedOf};
+ghost use Rattle.lookup.specs.Told.{outcome_told, answer_told};
 ghost use Rattle.measure.specs.Digest.{low, magnitude, place_weight, base_weight, flag_weight, row_weight, outcome_weight, weight, digest_from, measured_of};
 
 use accept::section_check::check;
-use accept::verdict::Verdict;
-use lookup::answer::{Answer, Outcome};
+use lookup::answer::{Answer, Found, Unfound};
 use lookup::look::look;
 use numbers::offset::{Offset, Shift, shift_of};
 use section::header::{Layout, layout_at};
@@ -71,41 +71,31 @@ pub fn row_weight(row: Row) -> u64
     ensures value { result ≡ row_weight row }
     ensures range { result < 6 * 2 ^ 32 }
 {
-    let base = row.base;
-    let cfa = row.cfa;
-    let ra = row.ra;
-    let fp = row.fp;
     row.start as u64
-        + base_weight(base)
-        + magnitude_of(cfa)
-        + place_weight(ra)
-        + place_weight(fp)
+        + base_weight(row.base)
+        + magnitude_of(row.cfa)
+        + place_weight(row.ra)
+        + place_weight(row.fp)
         + flag_weight(row.signed)
 }
 
-fn outcome_weight(outcome: Outcome) -> u64
-    ensures value { result ≡ outcome_weight outcome }
+fn outcome_weight(outcome: Result<Found, Unfound>) -> u64
+    ensures value { result ≡ outcome_weight (outcome_told outcome) }
     ensures range { result < 8 * 2 ^ 32 }
 {
     match outcome {
-        Outcome::Found {
-            row,
-            function,
-            number,
-        } => low_of(function) + low_of(number) + row_weight(row),
-        Outcome::Unsound { number, index } => 0,
-        Outcome::NoFunction => 21,
-        Outcome::Dispute { first, second } => 22 + low_of(first) + low_of(second),
-        Outcome::NoRow { function } => 23 + low_of(function),
+        Ok(found) => low_of(found.function) + low_of(found.number) + row_weight(found.row),
+        Err(Unfound::NoFunction) => 21,
+        Err(Unfound::Dispute { first, second }) => 22 + low_of(first) + low_of(second),
+        Err(Unfound::NoRow { function }) => 23 + low_of(function),
     }
 }
 
 fn weight_of(answer: Answer) -> u64
-    ensures value { result ≡ weight answer }
+    ensures value { result ≡ weight (answer_told answer) }
     ensures range { result < 9 * 2 ^ 32 }
 {
-    let outcome = answer.outcome;
-    low_of(answer.compared) + outcome_weight(outcome)
+    low_of(answer.compared) + outcome_weight(answer.outcome)
 }
 
 fn digest_of(section: &[u8], layout: Layout, address: u64, pcs: &[u64]) -> u64
@@ -120,16 +110,17 @@ fn digest_of(section: &[u8], layout: Layout, address: u64, pcs: &[u64]) -> u64
     digest
 }
 
+#[tactic(auto, unfolding(accept::specs::Given::number_of_rule))]
 pub fn measure_finds(section: &[u8], address: u64, pcs: &[u64]) -> Measured
     ensures { result ≡ measured_of section.now address pcs.now }
 {
     match check(section) {
-        Verdict::Refused { number, index } => Measured {
-            number,
-            index,
+        Err(refusal) => Measured {
+            number: refusal.rule.number(),
+            index: refusal.index,
             digest: 0,
         },
-        Verdict::Accepted => Measured {
+        Ok(()) => Measured {
             number: 0,
             index: 0,
             digest: digest_of(section, layout_at(section), address, pcs),
