@@ -7,6 +7,8 @@ use Rattle.lookup.proofs.look.look.Kinds as look-kinds
 use Rattle.lookup.proofs.look.look.Reads as look-reads
 use Rattle.lookup.proofs.look.lookup.Kinds as lookup-kinds
 use Rattle.lookup.proofs.look.lookup.Reads as lookup-reads
+use Rattle.lookup.proofs.look.reached_in.Kinds as reached_in-kinds
+use Rattle.lookup.proofs.look.reached_in.Reads as reached_in-reads
 use Rattle.lookup.proofs.rows.scan_rows.Kinds as scan_rows-kinds
 use Rattle.lookup.proofs.rows.scan_rows.Reads as scan_rows-reads
 use Rattle.lookup.proofs.search.past_in.Kinds as past_in-kinds
@@ -27,6 +29,9 @@ look_determined κs a z z' w w' p q = (p ∙ sym q, refl)
 
 pub lookup_determined : Determined lookup-kinds.ps lookup-kinds.r lookup-reads.Learnt
 lookup_determined κs a z z' w w' p q = (p ∙ sym q, refl)
+
+pub reached_in_determined : Determined reached_in-kinds.ps reached_in-kinds.r reached_in-reads.Learnt
+reached_in_determined κs a z z' w w' p q = (p ∙ sym q, refl)
 
 pub scan_rows_determined : Determined scan_rows-kinds.ps scan_rows-kinds.r scan_rows-reads.Learnt
 scan_rows_determined κs a z z' w w' p q = (p ∙ sym q, refl)

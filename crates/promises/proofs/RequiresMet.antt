@@ -36,6 +36,7 @@ use Rattle.listing.proofs.function.facts_at.Reads as facts_at-reads
 use Rattle.lookup.specs.Inner.Opened.{lookup_opened}
 use Rattle.lookup.proofs.look.block_offset.Reads as block_offset-reads
 use Rattle.lookup.proofs.look.look.Reads as look-reads
+use Rattle.lookup.proofs.look.reached_in.Reads as reached_in-reads
 use Rattle.lookup.proofs.rows.scan_rows.Reads as scan_rows-reads
 use Rattle.lookup.proofs.search.past_in.Reads as past_in-reads
 use Rattle.lookup.proofs.search.find.Reads as find-reads
@@ -175,6 +176,14 @@ pub look_met :
     (κs : Lfts 1) (here : Lies) (address pc : ℕ) → look-reads.Asked κs (lent here section_s, (layout_of section_s, (address, (pc, tt))))
 unfolding lookup_opened section_s
 look_met κs here address pc = record { accepted = refl; layout_is = refl }
+
+-- its first function, at its fourth byte
+pub reached_in_met :
+    (κs : Lfts 1) (here : Lies) → reached_in-reads.Asked κs (lent here section_s, (layout_of section_s, (0, (0x400000, (0x401003, tt)))))
+unfolding lookup_opened section_s
+reached_in_met κs here =
+    let inside : 0 < 2 = omega arith in
+    record { section = record { accepted = refl; layout_is = refl }; inside = inside; within = refl }
 
 pub scan_rows_met :
     (κs : Lfts 1) (here : Lies) (o : ℕ)

@@ -8,6 +8,8 @@ use Rattle.section.proofs.entry.entry_at.Kinds as entry_at-kinds
 use Rattle.section.proofs.entry.entry_at.Reads as entry_at-reads
 use Rattle.section.proofs.entry.exact_start.Kinds as exact_start-kinds
 use Rattle.section.proofs.entry.exact_start.Reads as exact_start-reads
+use Rattle.section.proofs.entry.position_at.Kinds as position_at-kinds
+use Rattle.section.proofs.entry.position_at.Reads as position_at-reads
 use Rattle.section.proofs.entry.start_of.Kinds as start_of-kinds
 use Rattle.section.proofs.entry.start_of.Reads as start_of-reads
 use Rattle.section.proofs.entry.type_of.Kinds as type_of-kinds
@@ -50,6 +52,9 @@ type_of_determined κs a z z' w w' p q = (p ∙ sym q, refl)
 
 pub does_repeat_determined : Determined does_repeat-kinds.ps does_repeat-kinds.r does_repeat-reads.Learnt
 does_repeat_determined κs a z z' w w' p q = (p ∙ sym q, refl)
+
+pub position_at_determined : Determined position_at-kinds.ps position_at-kinds.r position_at-reads.Learnt
+position_at_determined κs a z z' w w' p q = (p ∙ sym q, refl)
 
 pub start_of_determined : Determined start_of-kinds.ps start_of-kinds.r start_of-reads.Learnt
 start_of_determined κs a z z' w w' p q = (p.0 ∙ sym q.0, refl)
