@@ -34,6 +34,7 @@ use Rattle.caller.proofs.TheLinks.caller-registers-just_before as link-registers
 use Rattle.caller.proofs.TheLinks.caller-registers-asked_of as link-registers-asked_of
 use Rattle.caller.proofs.TheLinks.caller-registers-Registers-step_checked as link-registers-Registers-step_checked
 use Rattle.caller.proofs.TheLinks.caller-registers-Registers-step as link-registers-Registers-step
+use Rattle.caller.proofs.TheLinks.caller-registers-StepCause-index as link-registers-StepCause-index
 use Rattle.caller.proofs.TheLinks.caller-registers-StepCause-number as link-registers-StepCause-number
 use Rattle.caller.proofs.TheLinks.caller-registers-cfa_of_sp as link-registers-cfa_of_sp
 
@@ -63,6 +64,7 @@ entries more =
     ("caller::registers::asked_of", link-registers-asked_of.entry) ∷
     ("caller::registers::Registers::step_checked", link-registers-Registers-step_checked.entry) ∷
     ("caller::registers::Registers::step", link-registers-Registers-step.entry) ∷
+    ("caller::registers::StepCause::index", link-registers-StepCause-index.entry) ∷
     ("caller::registers::StepCause::number", link-registers-StepCause-number.entry) ∷
     ("caller::registers::cfa_of_sp", link-registers-cfa_of_sp.entry) ∷
     more
@@ -92,6 +94,7 @@ pub record Finds (look : Symbol → Entry) : Type 0 where
   pub registers_asked_of : look "caller::registers::asked_of" ≡ link-registers-asked_of.entry
   pub registers_Registers_step_checked : look "caller::registers::Registers::step_checked" ≡ link-registers-Registers-step_checked.entry
   pub registers_Registers_step : look "caller::registers::Registers::step" ≡ link-registers-Registers-step.entry
+  pub registers_StepCause_index : look "caller::registers::StepCause::index" ≡ link-registers-StepCause-index.entry
   pub registers_StepCause_number : look "caller::registers::StepCause::number" ≡ link-registers-StepCause-number.entry
   pub registers_cfa_of_sp : look "caller::registers::cfa_of_sp" ≡ link-registers-cfa_of_sp.entry
 
@@ -164,6 +167,9 @@ module _ (look : Symbol → Entry) (in_numbers : numbers.Finds look) (in_section
 
   pub registers_Registers_step : HasT look false link-registers-Registers-step.code
   registers_Registers_step = link-registers-Registers-step.has look false here.registers_Registers_step (accept.section_check_check look in_numbers in_section in_accept) registers_Registers_refuse registers_Registers_step_checked (numbers.address_window_fits look in_numbers) (section.header_layout_at look in_numbers in_section)
+
+  pub registers_StepCause_index : HasT look false link-registers-StepCause-index.code
+  registers_StepCause_index = link-registers-StepCause-index.has look false here.registers_StepCause_index
 
   pub registers_StepCause_number : HasT look false link-registers-StepCause-number.code
   registers_StepCause_number = link-registers-StepCause-number.has look false here.registers_StepCause_number (accept.verdict_Rule_number look in_numbers in_section in_accept)

@@ -2,11 +2,13 @@
 -- Assumes nothing.
 use mathlib.Core.Path.{◌≡◌, refl, sym, ◌∙◌, ap}
 use Prim.Native.Nat.{ℕ}
+use lib.ListN.{get_or}
 use Rattle.std.proofs.Common.{Result, Ok, Err}
+use Rattle.accept.specs.declared.verdict.Refusal.{Refusal}
 use Rattle.accept.specs.declared.verdict.Rule.{Rule}
 use Rattle.accept.proofs.Exactly.{by_number}
-use Rattle.caller.specs.Numbers.{step_registers, step_number}
-use Rattle.caller.specs.Told.{cause_number, refusal_told, step_told}
+use Rattle.caller.specs.Numbers.{step_registers, step_number, step_indexes}
+use Rattle.caller.specs.Told.{cause_number, cause_index, refusal_told, step_told}
 use Rattle.caller.specs.declared.registers.Registers.{Registers}
 use Rattle.caller.specs.declared.registers.StepCause.{StepCause}
 use Rattle.caller.specs.declared.registers.StepCause.TheVariants.{Window, Unsound, NoFunction, Dispute, NoRow, Signed, CfaOutside, CfaLow, RaLost, WordOutside}
@@ -31,7 +33,7 @@ same_cause old other RaLost RaLost e = refl
 same_cause old other WordOutside WordOutside e = refl
 same_cause old other a b e = cc
 
-told_old : (old : Registers) (cause : StepCause) → step_registers (refusal_told old cause) ≡ old
+pub told_old : (old : Registers) (cause : StepCause) → step_registers (refusal_told old cause) ≡ old
 unfolding step_registers
 told_old old Window = refl
 told_old old (Unsound refusal) = refl
@@ -72,6 +74,32 @@ told_number old CfaOutside = refl
 told_number old CfaLow = refl
 told_number old RaLost = refl
 told_number old WordOutside = refl
+
+-- the index that it carries
+pub told_index : (old : Registers) (cause : StepCause) → cause_index cause ≡ get_or (step_indexes (refusal_told old cause)) 0 0
+unfolding step_indexes
+told_index old (Unsound refusal) = refl
+told_index old Window = refl
+told_index old NoFunction = refl
+told_index old Dispute = refl
+told_index old NoRow = refl
+told_index old Signed = refl
+told_index old CfaOutside = refl
+told_index old CfaLow = refl
+told_index old RaLost = refl
+told_index old WordOutside = refl
+
+pub no_index : (cause : StepCause) → ((refusal : Refusal) → ¬ (cause ≡ Unsound refusal)) → 0 ≡ cause_index cause
+no_index (Unsound refusal) other = absurd (other refusal refl)
+no_index Window other = refl
+no_index NoFunction other = refl
+no_index Dispute other = refl
+no_index NoRow other = refl
+no_index Signed other = refl
+no_index CfaOutside other = refl
+no_index CfaLow other = refl
+no_index RaLost other = refl
+no_index WordOutside other = refl
 
 pub step_told_once : (a b : Result Registers StepRefusal) → step_told a ≡ step_told b → a ≡ b
 step_told_once (Ok a) (Ok b) e = let same : a ≡ b = cc in ap Ok same

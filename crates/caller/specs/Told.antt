@@ -21,6 +21,11 @@ cause_number CfaLow = 26
 cause_number RaLost = 27
 cause_number WordOutside = 28
 
+-- the index that it carries: the entry's for 1 to 15
+abbrev pub cause_index : StepCause → ℕ
+cause_index (Unsound refusal) = refusal.index
+cause_index cause = 0
+
 -- a refusal with the old registers, and with the entry's index for 1 to 15
 abbrev pub refusal_told : Registers → StepCause → Step
 refusal_told old (Unsound refusal) = step.Unsound old (number_of_rule refusal.rule) refusal.index

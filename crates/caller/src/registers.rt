@@ -3,7 +3,7 @@ ghost use Rattle.std.specs.Prelude.{◌≡◌};
 ghost use Rattle.numbers.specs.Computed.Address.{in_memory};
 ghost use Rattle.caller.specs.Frame.{just_before, asked_of, base_value, cfa_of, caller_sp, cfa_of_sp};
 ghost use Rattle.caller.specs.Computed.Caller.{is_low};
-ghost use Rattle.caller.specs.Told.{cause_number};
+ghost use Rattle.caller.specs.Told.{cause_number, cause_index};
 
 use accept::verdict::Refusal;
 use numbers::address::address_of;
@@ -72,6 +72,16 @@ impl StepCause {
             StepCause::CfaLow => 26,
             StepCause::RaLost => 27,
             StepCause::WordOutside => 28,
+        }
+    }
+
+    // The entry's index for 1 to 15, else 0.
+    pub fn index(self) -> u64
+        ensures { result ≡ cause_index self }
+    {
+        match self {
+            StepCause::Unsound(refusal) => refusal.index,
+            _ => 0,
         }
     }
 }

@@ -22,6 +22,7 @@ use Rattle.suntimpani.proofs.TheLinks.suntimpani-flat-place_kind as link-flat-pl
 use Rattle.suntimpani.proofs.TheLinks.suntimpani-flat-place_offset as link-flat-place_offset
 use Rattle.suntimpani.proofs.TheLinks.suntimpani-flat-flat_row as link-flat-flat_row
 use Rattle.suntimpani.proofs.TheLinks.suntimpani-asks-flat_asked as link-asks-flat_asked
+use Rattle.suntimpani.proofs.TheLinks.suntimpani-flat-flat_outcome as link-flat-flat_outcome
 use Rattle.suntimpani.proofs.TheLinks.suntimpani-flat-flat_answer as link-flat-flat_answer
 use Rattle.suntimpani.proofs.TheLinks.suntimpani-flat-flat_verdict as link-flat-flat_verdict
 use Rattle.suntimpani.proofs.TheLinks.suntimpani-functions-kind_number as link-functions-kind_number
@@ -43,6 +44,7 @@ use Rattle.suntimpani.proofs.TheLinks.suntimpani-suntimpani_function_at as link-
 use Rattle.suntimpani.proofs.TheLinks.suntimpani-suntimpani_lookup as link-suntimpani_lookup
 use Rattle.suntimpani.proofs.TheLinks.suntimpani-suntimpani_next_row as link-suntimpani_next_row
 use Rattle.suntimpani.proofs.TheLinks.suntimpani-suntimpani_rows_of as link-suntimpani_rows_of
+use Rattle.suntimpani.proofs.TheLinks.suntimpani-walks-ending_number as link-walks-ending_number
 use Rattle.suntimpani.proofs.TheLinks.suntimpani-walks-flat_traced as link-walks-flat_traced
 use Rattle.suntimpani.proofs.TheLinks.suntimpani-suntimpani_trace as link-suntimpani_trace
 
@@ -56,6 +58,7 @@ entries more =
     ("suntimpani::flat::place_offset", link-flat-place_offset.entry) ∷
     ("suntimpani::flat::flat_row", link-flat-flat_row.entry) ∷
     ("suntimpani::asks::flat_asked", link-asks-flat_asked.entry) ∷
+    ("suntimpani::flat::flat_outcome", link-flat-flat_outcome.entry) ∷
     ("suntimpani::flat::flat_answer", link-flat-flat_answer.entry) ∷
     ("suntimpani::flat::flat_verdict", link-flat-flat_verdict.entry) ∷
     ("suntimpani::functions::kind_number", link-functions-kind_number.entry) ∷
@@ -77,6 +80,7 @@ entries more =
     ("suntimpani::suntimpani_lookup", link-suntimpani_lookup.entry) ∷
     ("suntimpani::suntimpani_next_row", link-suntimpani_next_row.entry) ∷
     ("suntimpani::suntimpani_rows_of", link-suntimpani_rows_of.entry) ∷
+    ("suntimpani::walks::ending_number", link-walks-ending_number.entry) ∷
     ("suntimpani::walks::flat_traced", link-walks-flat_traced.entry) ∷
     ("suntimpani::suntimpani_trace", link-suntimpani_trace.entry) ∷
     more
@@ -90,6 +94,7 @@ pub record Finds (look : Symbol → Entry) : Type 0 where
   pub flat_place_offset : look "suntimpani::flat::place_offset" ≡ link-flat-place_offset.entry
   pub flat_flat_row : look "suntimpani::flat::flat_row" ≡ link-flat-flat_row.entry
   pub asks_flat_asked : look "suntimpani::asks::flat_asked" ≡ link-asks-flat_asked.entry
+  pub flat_flat_outcome : look "suntimpani::flat::flat_outcome" ≡ link-flat-flat_outcome.entry
   pub flat_flat_answer : look "suntimpani::flat::flat_answer" ≡ link-flat-flat_answer.entry
   pub flat_flat_verdict : look "suntimpani::flat::flat_verdict" ≡ link-flat-flat_verdict.entry
   pub functions_kind_number : look "suntimpani::functions::kind_number" ≡ link-functions-kind_number.entry
@@ -111,6 +116,7 @@ pub record Finds (look : Symbol → Entry) : Type 0 where
   pub suntimpani_lookup : look "suntimpani::suntimpani_lookup" ≡ link-suntimpani_lookup.entry
   pub suntimpani_next_row : look "suntimpani::suntimpani_next_row" ≡ link-suntimpani_next_row.entry
   pub suntimpani_rows_of : look "suntimpani::suntimpani_rows_of" ≡ link-suntimpani_rows_of.entry
+  pub walks_ending_number : look "suntimpani::walks::ending_number" ≡ link-walks-ending_number.entry
   pub walks_flat_traced : look "suntimpani::walks::flat_traced" ≡ link-walks-flat_traced.entry
   pub suntimpani_trace : look "suntimpani::suntimpani_trace" ≡ link-suntimpani_trace.entry
 
@@ -134,13 +140,16 @@ module _ (look : Symbol → Entry) (in_numbers : numbers.Finds look) (in_section
   flat_flat_row = link-flat-flat_row.has look false here.flat_flat_row flat_base_number flat_flag_of flat_place_kind flat_place_offset
 
   pub asks_flat_asked : HasT look false link-asks-flat_asked.code
-  asks_flat_asked = link-asks-flat_asked.has look false here.asks_flat_asked flat_empty_row flat_flat_row
+  asks_flat_asked = link-asks-flat_asked.has look false here.asks_flat_asked (accept.verdict_Rule_number look in_numbers in_section in_accept) flat_empty_row flat_flat_row
+
+  pub flat_flat_outcome : HasT look false link-flat-flat_outcome.code
+  flat_flat_outcome = link-flat-flat_outcome.has look false here.flat_flat_outcome flat_empty_row flat_flat_row
 
   pub flat_flat_answer : HasT look false link-flat-flat_answer.code
-  flat_flat_answer = link-flat-flat_answer.has look false here.flat_flat_answer flat_empty_row flat_flat_row
+  flat_flat_answer = link-flat-flat_answer.has look false here.flat_flat_answer (accept.verdict_Rule_number look in_numbers in_section in_accept) flat_empty_row flat_flat_outcome flat_flat_row
 
   pub flat_flat_verdict : HasT look false link-flat-flat_verdict.code
-  flat_flat_verdict = link-flat-flat_verdict.has look false here.flat_flat_verdict
+  flat_flat_verdict = link-flat-flat_verdict.has look false here.flat_flat_verdict (accept.verdict_Rule_number look in_numbers in_section in_accept)
 
   pub functions_kind_number : HasT look false link-functions-kind_number.code
   functions_kind_number = link-functions-kind_number.has look false here.functions_kind_number
@@ -155,7 +164,7 @@ module _ (look : Symbol → Entry) (in_numbers : numbers.Finds look) (in_section
   functions_no_function = link-functions-no_function.has look false here.functions_no_function
 
   pub functions_flat_function : HasT look false link-functions-flat_function.code
-  functions_flat_function = link-functions-flat_function.has look false here.functions_flat_function functions_flat_facts functions_no_function
+  functions_flat_function = link-functions-flat_function.has look false here.functions_flat_function (accept.verdict_Rule_number look in_numbers in_section in_accept) functions_flat_facts functions_no_function
 
   pub rows_abi_named : HasT look false link-rows-abi_named.code
   rows_abi_named = link-rows-abi_named.has look false here.rows_abi_named
@@ -179,7 +188,7 @@ module _ (look : Symbol → Entry) (in_numbers : numbers.Finds look) (in_section
   suntimpani_ask = link-suntimpani_ask.has look false here.suntimpani_ask (ask.land_ask look in_numbers in_section in_accept in_lookup in_ask) asks_flat_asked
 
   pub walks_flat_step : HasT look false link-walks-flat_step.code
-  walks_flat_step = link-walks-flat_step.has look false here.walks_flat_step
+  walks_flat_step = link-walks-flat_step.has look false here.walks_flat_step (caller.registers_StepCause_index look in_numbers in_section in_accept in_lookup in_caller) (caller.registers_StepCause_number look in_numbers in_section in_accept in_lookup in_caller)
 
   pub suntimpani_caller : HasT look false link-suntimpani_caller.code
   suntimpani_caller = link-suntimpani_caller.has look false here.suntimpani_caller (caller.registers_Registers_step look in_numbers in_section in_accept in_lookup in_caller) walks_flat_step
@@ -199,8 +208,11 @@ module _ (look : Symbol → Entry) (in_numbers : numbers.Finds look) (in_section
   pub suntimpani_rows_of : HasT look false link-suntimpani_rows_of.code
   suntimpani_rows_of = link-suntimpani_rows_of.has look false here.suntimpani_rows_of (listing.function_function_at look in_numbers in_section in_accept in_listing) (listing.reader_place_in look in_numbers in_section in_accept in_listing) rows_flat_place
 
+  pub walks_ending_number : HasT look false link-walks-ending_number.code
+  walks_ending_number = link-walks-ending_number.has look false here.walks_ending_number (caller.registers_StepCause_number look in_numbers in_section in_accept in_lookup in_caller)
+
   pub walks_flat_traced : HasT look false link-walks-flat_traced.code
-  walks_flat_traced = link-walks-flat_traced.has look false here.walks_flat_traced
+  walks_flat_traced = link-walks-flat_traced.has look false here.walks_flat_traced (accept.verdict_Rule_number look in_numbers in_section in_accept) walks_ending_number (trace.answer_DoorFault_number look in_numbers in_section in_accept in_lookup in_caller in_trace)
 
   pub suntimpani_trace : HasT look false link-suntimpani_trace.code
   suntimpani_trace = link-suntimpani_trace.has look false here.suntimpani_trace walks_flat_traced (trace.walk_trace look in_numbers in_section in_accept in_lookup in_caller in_trace)

@@ -1,9 +1,11 @@
 // Verdicts and lookups' answers as the flat structs that C sees. Fields without meaning in a case are 0.
 ghost use Rattle.std.specs.Prelude.{◌≡◌};
+ghost use Rattle.accept.specs.Told.{verdict_told};
+ghost use Rattle.lookup.specs.Told.{outcome_told, lookup_told};
 ghost use Rattle.suntimpani.specs.Flat.{flat_verdict, base_number, place_kind, place_offset, flag, empty_row, flat_row, flat_answer};
 
-use accept::verdict::Verdict;
-use lookup::answer::{Answer, Outcome};
+use accept::verdict::Refusal;
+use lookup::answer::{Answer, Found, Unfound};
 use numbers::offset::Offset;
 use section::row::{Base, Place, Row};
 
@@ -34,21 +36,23 @@ pub struct AnswerInC {
     pub signedra: u64,
 }
 
-pub fn flat_verdict(answer: Verdict) -> VerdictInC
-    ensures { result ≡ flat_verdict answer }
+#[tactic(auto, unfolding(crate::specs::Flat::flat_verdict, accept::specs::Given::verdict_number, accept::specs::Given::verdict_indexes))]
+pub fn flat_verdict(answer: Result<(), Refusal>) -> VerdictInC
+    ensures { result ≡ flat_verdict (verdict_told answer) }
 {
     match answer {
-        Verdict::Accepted => VerdictInC {
+        Ok(()) => VerdictInC {
             number: 0,
             index: 0,
         },
-        Verdict::Refused { number, index } => VerdictInC {
-            number: number,
-            index: index,
+        Err(refusal) => VerdictInC {
+            number: refusal.rule.number(),
+            index: refusal.index,
         },
     }
 }
 
+#[tactic(auto, unfolding(crate::specs::Flat::base_number))]
 pub fn base_number(base: Base) -> u64
     ensures { result ≡ base_number base }
 {
@@ -58,6 +62,7 @@ pub fn base_number(base: Base) -> u64
     }
 }
 
+#[tactic(auto, unfolding(crate::specs::Flat::place_kind))]
 pub fn place_kind(place: Place) -> u64
     ensures { result ≡ place_kind place }
 {
@@ -67,6 +72,7 @@ pub fn place_kind(place: Place) -> u64
     }
 }
 
+#[tactic(auto, unfolding(crate::specs::Flat::place_offset))]
 pub fn place_offset(place: Place) -> Offset
     ensures { result ≡ place_offset place }
 {
@@ -76,16 +82,15 @@ pub fn place_offset(place: Place) -> Offset
     }
 }
 
+#[tactic(auto, unfolding(crate::specs::Flat::flag))]
 pub fn flag_of(set: bool) -> u64
     ensures { result ≡ flag set }
 {
-    if set {
-        return 1;
-    }
-    0
+    set as u64
 }
 
 // What stands in the fields of a row where none was found: it flattens to 0 in each.
+#[tactic(auto, unfolding(crate::specs::Flat::empty_row))]
 pub fn empty_row() -> Row
     ensures { result ≡ empty_row }
 {
@@ -132,20 +137,27 @@ pub fn flat_row(
     }
 }
 
-pub fn flat_answer(answer: Answer) -> AnswerInC
-    ensures { result ≡ flat_answer answer }
+// What was found in an accepted section, or why nothing was.
+#[tactic(auto, unfolding(crate::specs::Flat::flat_answer, lookup::specs::Numbers::outcome_number, lookup::specs::Numbers::outcome_indexes, lookup::specs::Numbers::outcome_row, lookup::specs::Numbers::number_of_unfound))]
+fn flat_outcome(outcome: Result<Found, Unfound>, compared: u64) -> AnswerInC
+    ensures { result ≡ flat_answer (record { outcome = outcome_told outcome; compared = compared }) }
 {
-    let compared = answer.compared;
-    let outcome = answer.outcome;
     match outcome {
-        Outcome::Found {
-            row,
-            function,
-            number,
-        } => flat_row(0, function, 0, compared, number, row),
-        Outcome::Unsound { number, index } => flat_row(number, index, 0, compared, 0, empty_row()),
-        Outcome::NoFunction => flat_row(21, 0, 0, compared, 0, empty_row()),
-        Outcome::Dispute { first, second } => flat_row(22, first, second, compared, 0, empty_row()),
-        Outcome::NoRow { function } => flat_row(23, function, 0, compared, 0, empty_row()),
+        Ok(found) => flat_row(0, found.function, 0, compared, found.number, found.row),
+        Err(Unfound::NoFunction) => flat_row(21, 0, 0, compared, 0, empty_row()),
+        Err(Unfound::Dispute { first, second }) => {
+            flat_row(22, first, second, compared, 0, empty_row())
+        }
+        Err(Unfound::NoRow { function }) => flat_row(23, function, 0, compared, 0, empty_row()),
+    }
+}
+
+#[tactic(auto, unfolding(crate::specs::Flat::flat_answer, lookup::specs::Numbers::outcome_number, lookup::specs::Numbers::outcome_indexes, lookup::specs::Numbers::outcome_row))]
+pub fn flat_answer(answer: Result<Answer, Refusal>) -> AnswerInC
+    ensures { result ≡ flat_answer (lookup_told answer) }
+{
+    match answer {
+        Ok(answer) => flat_outcome(answer.outcome, answer.compared),
+        Err(refusal) => flat_row(refusal.rule.number(), refusal.index, 0, 0, 0, empty_row()),
     }
 }
