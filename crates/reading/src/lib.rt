@@ -21,7 +21,9 @@ impl fmt::Display for Worded {
         let end = MESSAGE.saturating_sub(rest.len());
         let said = room.get(..end).unwrap_or(&[]);
         let said = str::from_utf8(said).unwrap_or("");
-        let message = said.split_once(" (os error ").map_or(said, |(front, _)| front);
+        let message = said
+            .split_once(" (os error ")
+            .map_or(said, |(front, _)| front);
         f.write_str(message)
     }
 }
