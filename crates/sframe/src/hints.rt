@@ -2,8 +2,6 @@
 use crate::arguments::{is_input, note_file, note_given};
 use crate::console::Console;
 use crate::say::{note, note_number};
-use crate::text::does_begin;
-use numbers::field::{Number, Order, number_at};
 use std::rt::Env;
 
 // Argument 2 is the section's file: here the program that it is taken from.
@@ -46,63 +44,31 @@ fn hint_of_version(rt: &impl Env, console: &Console, version: u8) {
     );
 }
 
-// Whether the magic stands there in one of the byte orders.
-fn is_section(section: &[u8]) -> bool {
-    if does_begin(section, b"\xe2\xde") {
-        return true;
-    }
-    does_begin(section, b"\xde\xe2")
-}
-
-// The version is the byte behind the magic.
-fn hint_of_other(rt: &impl Env, console: &Console, section: &[u8]) {
-    if section.len() < 3 {
-        return;
-    }
-    if section[2] != 2 {
-        hint_of_version(rt, console, section[2]);
-    }
-}
-
-// A file that is no section of version 2, and what it is.
+// A file that is no section of version 2, and what it is. Behind the magic, in one of the byte orders, stands the version.
 pub fn hint_of_file(rt: &impl Env, console: &Console, section: &[u8]) {
-    if section.len() < 1 {
-        hint_of_empty(rt, console);
-        return;
-    }
-    if does_begin(section, b"\x7fELF") {
-        hint_of_elf(rt, console);
-        return;
-    }
-    if is_section(section) {
-        hint_of_other(rt, console, section);
+    match section {
+        [] => hint_of_empty(rt, console),
+        [0x7f, b'E', b'L', b'F', ..] => hint_of_elf(rt, console),
+        [0xe2, 0xde, version, ..] | [0xde, 0xe2, version, ..] if *version != 2 => {
+            hint_of_version(rt, console, *version)
+        }
+        _ => {}
     }
 }
 
-// Whether the number of 4 bytes at a place is 0.
-fn is_zero_at(section: &[u8], place: usize) -> bool {
-    match number_at(section, place, 2, Order::Little) {
-        Number::Is(n) => n == 0,
-        Number::Outside => false,
-        Number::NoWidth => false,
-    }
+// Whether the start field of an entry at this place holds 0.
+fn is_start_empty(section: &[u8], place: usize) -> bool {
+    matches!(section.get(place..), Some([0, 0, 0, 0, ..]))
 }
 
-// Whether the start fields of the first two entries hold 0; the first entry stands behind the auxiliary header of so many bytes.
-fn are_starts_empty(section: &[u8], auxiliary: u8) -> bool {
-    let first = 28 + auxiliary as usize;
-    if is_zero_at(section, first) {
-        return is_zero_at(section, first + 20);
-    }
-    false
-}
-
-// Behind a dispute: in an object file every start field is still 0, and the linker fills it in.
+// Behind a dispute: in an object file every start field is still 0, and the linker fills it in. The first two entries tell; the first
+// stands behind the auxiliary header, of as many bytes as byte 7 says.
 pub fn hint_of_unlinked(console: &Console, section: &[u8]) {
-    if section.len() < 8 {
+    let Some(auxiliary) = section.get(7) else {
         return;
-    }
-    if are_starts_empty(section, section[7]) {
+    };
+    let first = 28 + *auxiliary as usize;
+    if is_start_empty(section, first) && is_start_empty(section, first + 20) {
         note(
             console,
             b"sframe: no start is filled in, as in an object file that is not linked: take the section from the linked program\n",

@@ -4,10 +4,9 @@ use crate::arguments::count_given;
 use crate::console::Console;
 use crate::line::{blank_line, put, put_number, put_offset, put_start, say_line};
 use crate::say::{complain, note, note_number};
-use crate::status::tell_refused;
+use crate::status::{argument_count, tell_refused};
 use accept::section_check::check;
 use accept::verdict::Verdict;
-use digits::Parsed;
 use listing::function::Kind;
 use listing::lines::{Cursor, FunctionLine, Line, NextLine, cursor_over, next_line};
 use section::header::{Layout, layout_at};
@@ -173,11 +172,8 @@ fn list_all(console: &Console, section: &[u8]) {
     }
 }
 
-// One function, by argument 3.
-fn list_one(rt: &impl Env, console: &Console, section: &[u8]) {
-    let Parsed::Number(index) = count_given(rt, console, 3, b"INDEX") else {
-        return;
-    };
+// One function.
+fn list_one(console: &Console, section: &[u8], index: u64) {
     match check(section) {
         Verdict::Refused {
             number,
@@ -187,11 +183,11 @@ fn list_one(rt: &impl Env, console: &Console, section: &[u8]) {
     }
 }
 
-// With `given` arguments behind the command: FILE, or FILE and INDEX.
-pub fn answer_list(rt: &impl Env, console: &Console, section: &[u8], given: usize) {
-    if given < 2 {
+// FILE alone, or FILE and INDEX.
+pub fn answer_list(rt: &impl Env, console: &Console, section: &[u8]) {
+    if argument_count(rt) < 4 {
         list_all(console, section);
-        return;
+    } else if let Some(index) = count_given(rt, console, 3, b"INDEX") {
+        list_one(console, section, index);
     }
-    list_one(rt, console, section);
 }

@@ -1,15 +1,13 @@
 // Text and numbers on standard output, and on standard error what is wrong with a command line, or may help.
 use crate::console::Console;
 use crate::status::tell_wrong;
+use reading::Worded;
+use std::io;
 use std::io::Write;
 use std::os::fd::AsFd;
-use std::{io, str};
 
 // The system's number for a descriptor that is closed, or not open for what is asked of it.
 const BAD_DESCRIPTOR: i32 = 9;
-
-// As much as an error says of itself.
-const MESSAGE: usize = 256;
 
 // Whether standard output is open, which it is not behind a write that failed. One that is open can be had a second time.
 pub fn is_output_open(console: &Console) -> bool {
@@ -18,15 +16,12 @@ pub fn is_output_open(console: &Console) -> bool {
     }
     match console.out.as_fd().try_clone_to_owned() {
         Ok(_second) => true,
-        Err(error) => !is_bad_descriptor(error),
+        Err(error) => !is_bad_descriptor(&error),
     }
 }
 
-fn is_bad_descriptor(error: io::Error) -> bool {
-    match error.raw_os_error() {
-        Some(code) => code == BAD_DESCRIPTOR,
-        None => false,
-    }
+fn is_bad_descriptor(error: &io::Error) -> bool {
+    error.raw_os_error() == Some(BAD_DESCRIPTOR)
 }
 
 // One that is open, but not for writing. Where it is closed, that was told before.
@@ -47,7 +42,7 @@ fn keep(console: &Console, written: io::Result<()>) {
     let Err(error) = written else {
         return;
     };
-    if is_bad_descriptor(error) {
+    if is_bad_descriptor(&error) {
         close_unwritable(console);
         return;
     }
@@ -108,29 +103,11 @@ pub fn note_argument(console: &Console, text: &[u8]) {
     }
 }
 
-// What the system says of an error, without the number that std puts behind it.
-fn note_error(console: &Console, error: io::Error) {
-    let mut room = [0u8; MESSAGE];
-    let mut rest: &mut [u8] = &mut room;
-    let _ = write!(rest, "{error}");
-    let end = MESSAGE.saturating_sub(rest.len());
-    let Some(said) = room.get(..end) else {
-        return;
-    };
-    let Ok(said) = str::from_utf8(said) else {
-        return;
-    };
-    match said.split_once(" (os error ") {
-        Some((message, _)) => note(console, message.as_bytes()),
-        None => note(console, said.as_bytes()),
-    }
-}
-
-// What failed, as the caller names it, and the error.
+// What failed, as the caller names it, and what the system says of the error.
 pub fn complain_of_error(console: &Console, what: &[u8], error: io::Error) {
+    let worded = Worded(error);
     note(console, what);
-    note(console, b": ");
-    note_error(console, error);
+    let _ = print!(console.err; ": {worded}");
     complain(console, b"\n");
 }
 
