@@ -3,7 +3,7 @@ use crate::arguments::number_given;
 use crate::console::Console;
 use crate::hints::hint_of_file;
 use crate::list::answer_list;
-use crate::say::{say, say_word};
+use crate::say::say;
 use crate::show::{show_answer, show_asked, show_verdict};
 use crate::show_why::show_lookup_why;
 use crate::status::argument_count;
@@ -22,27 +22,20 @@ pub enum Question {
     Walks(Sought),
 }
 
-// Which PC an answer is of, where there are several.
-fn show_which_pc(console: &Console, pc: u64) {
-    say(console, b"PC ");
-    say_word(console, pc);
-    say(console, b"\n");
-}
-
 // Shows the answer for each PC, by the section's address and the PC, unless what is wrong with one of the arguments was told: all are
 // tried before one is looked up.
 fn answer_pcs<F: Fn(u64, u64)>(rt: &impl Env, console: &Console, show: &F) -> Option<()>
     requires { F.IsAlwaysCallable show.now }
 {
     let count = argument_count(rt);
-    let address = number_given(rt, console, 3, b"ADDRESS")?;
+    let address = number_given(rt, console, 3, "ADDRESS")?;
     for i in 4..count {
-        number_given(rt, console, i, b"PC")?;
+        number_given(rt, console, i, "PC")?;
     }
     for i in 4..count {
-        let pc = number_given(rt, console, i, b"PC")?;
+        let pc = number_given(rt, console, i, "PC")?;
         if 5 < count {
-            show_which_pc(console, pc);
+            say(console, format_args!("PC {pc:016x}\n"));
         }
         show(address, pc);
     }
@@ -51,8 +44,8 @@ fn answer_pcs<F: Fn(u64, u64)>(rt: &impl Env, console: &Console, show: &F) -> Op
 
 // Arguments 3 and 4, of one PC.
 fn answer_why(rt: &impl Env, console: &Console, section: &[u8]) -> Option<()> {
-    let address = number_given(rt, console, 3, b"ADDRESS")?;
-    let pc = number_given(rt, console, 4, b"PC")?;
+    let address = number_given(rt, console, 3, "ADDRESS")?;
+    let pc = number_given(rt, console, 4, "PC")?;
     show_lookup_why(console, section, address, pc);
     Some(())
 }

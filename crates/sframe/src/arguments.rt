@@ -1,7 +1,7 @@
 // What the arguments give: numbers, and files that are read. What is wrong with one is said on standard error.
 use crate::console::Console;
 use crate::rooms::{LARGEST, Room, read_into};
-use crate::say::{complain, complain_of_error, note, note_argument, note_number};
+use crate::say::{Given, complain, complain_of_error, note};
 use crate::status::{ARGUMENT, argument};
 use digits::{parse, parse_decimal};
 use std::env::FillError;
@@ -45,24 +45,21 @@ impl Written {
         }
     }
 
-    fn complaint(self) -> &'static [u8] {
+    fn form(self) -> &'static str {
         match self {
-            Written::Hexadecimal => {
-                b" is not a hexadecimal number of 1 to 16 digits, leading zeros aside: '"
-            }
-            Written::Decimal => {
-                b" is not a decimal number of 1 to 19 digits, leading zeros aside: '"
-            }
+            Written::Hexadecimal => "a hexadecimal number of 1 to 16 digits",
+            Written::Decimal => "a decimal number of 1 to 19 digits",
         }
     }
 }
 
-fn complain_of_number(console: &Console, name: &[u8], written: Written, text: &[u8]) {
-    note(console, b"sframe: ");
-    note(console, name);
-    note(console, written.complaint());
-    note_argument(console, text);
-    complain(console, b"'\n");
+fn complain_of_number(console: &Console, name: &str, written: Written, text: &[u8]) {
+    let form = written.form();
+    let given = Given(text);
+    complain(
+        console,
+        format_args!("sframe: {name} is not {form}, leading zeros aside: '{given}'\n"),
+    );
 }
 
 // The number that argument i gives, unless what is wrong with it was told. `name` is what `sframe help` calls it.
@@ -70,7 +67,7 @@ fn given_at(
     rt: &impl Env,
     console: &Console,
     i: usize,
-    name: &[u8],
+    name: &str,
     written: Written,
 ) -> Option<u64> {
     let mut room = [0u8; ARGUMENT];
@@ -83,12 +80,12 @@ fn given_at(
 }
 
 // An address, or what is as wide as one: hexadecimal.
-pub fn number_given(rt: &impl Env, console: &Console, i: usize, name: &[u8]) -> Option<u64> {
+pub fn number_given(rt: &impl Env, console: &Console, i: usize, name: &str) -> Option<u64> {
     given_at(rt, console, i, name, Written::Hexadecimal)
 }
 
 // How many, or which one: decimal.
-pub fn count_given(rt: &impl Env, console: &Console, i: usize, name: &[u8]) -> Option<u64> {
+pub fn count_given(rt: &impl Env, console: &Console, i: usize, name: &str) -> Option<u64> {
     given_at(rt, console, i, name, Written::Decimal)
 }
 
@@ -106,13 +103,13 @@ pub fn is_input(rt: &impl Env, i: usize) -> bool {
 // Argument i as a part of a message.
 pub fn note_given(rt: &impl Env, console: &Console, i: usize) {
     let mut room = [0u8; ARGUMENT];
-    note_argument(console, argument(rt, i, &mut room));
+    note(console, Given(argument(rt, i, &mut room)));
 }
 
 // The file that argument i names, as a part of a message.
 pub fn note_file(rt: &impl Env, console: &Console, i: usize) {
     if is_input(rt, i) {
-        note(console, b"standard input");
+        note(console, "standard input");
         return;
     }
     note_given(rt, console, i);
@@ -120,25 +117,24 @@ pub fn note_file(rt: &impl Env, console: &Console, i: usize) {
 
 // What went wrong with a file.
 fn complain_of_file(console: &Console, name: &[u8], error: io::Error) {
-    note(console, b"sframe: ");
-    note_argument(console, name);
-    complain_of_error(console, b"", error);
+    let name = Given(name);
+    complain_of_error(console, format_args!("sframe: {name}"), error);
 }
 
 // A file that is longer than the largest room that can be had.
 pub fn complain_of_length(rt: &impl Env, console: &Console, i: usize, room: Room) {
-    note(console, b"sframe: ");
+    let bytes = room.bytes();
+    let reason = if bytes < LARGEST as u64 {
+        "for which the stack limit leaves no room: 'ulimit -s' raises it"
+    } else {
+        "the most that this program reads"
+    };
+    note(console, "sframe: ");
     note_file(rt, console, i);
-    note(console, b": more than ");
-    note_number(console, room.bytes());
-    if room.bytes() < LARGEST as u64 {
-        complain(
-            console,
-            b" bytes, for which the stack limit leaves no room: 'ulimit -s' raises it\n",
-        );
-        return;
-    }
-    complain(console, b" bytes, the most that this program reads\n");
+    complain(
+        console,
+        format_args!(": more than {bytes} bytes, {reason}\n"),
+    );
 }
 
 // Opens a file for reading. A name that is no text, in UTF-8, is refused: files are opened by text alone.
@@ -185,7 +181,7 @@ pub fn open_given<R: Env + Files>(
     rt: &R,
     console: &Console,
     i: usize,
-    unnamed: &[u8],
+    unnamed: &str,
 ) -> Option<Opened<R::File>> {
     let mut name = [0u8; ARGUMENT];
     match rt.arg(i, &mut name) {

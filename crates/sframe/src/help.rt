@@ -1,6 +1,6 @@
 // What `sframe help` prints: a part for each command, and what its arguments are. The texts stand here as they are printed.
 use crate::console::Console;
-use crate::say::{complain, note, note_argument, say};
+use crate::say::{Given, complain, say};
 
 // What a person can ask for.
 #[derive(Clone, Copy)]
@@ -46,59 +46,61 @@ pub fn command_of(word: &[u8]) -> Option<Command> {
 
 // A word that names no command.
 pub fn complain_of_word(console: &Console, word: &[u8]) {
-    note(console, b"sframe: '");
-    note_argument(console, word);
-    complain(console, b"' is no command; 'sframe help' lists them\n");
+    let word = Given(word);
+    complain(
+        console,
+        format_args!("sframe: '{word}' is no command; 'sframe help' lists them\n"),
+    );
 }
 
-const CHECK: &[u8] = b"\
+const CHECK: &str = "\
 sframe check FILE
     whether a section is accepted, else the first broken rule
 ";
 
-const LIST: &[u8] = b"\
+const LIST: &str = "\
 sframe list FILE [INDEX]
     every function and row of a section, or one function by its index
 ";
 
-const LOOKUP: &[u8] = b"\
+const LOOKUP: &str = "\
 sframe lookup FILE ADDRESS PC...
     the function and the row for each PC
 ";
 
-const ASK: &[u8] = b"\
+const ASK: &str = "\
 sframe ask FILE ADDRESS PC...
     the same without a check of the whole section: only what the answer needs is read
 ";
 
-const WHY: &[u8] = b"\
+const WHY: &str = "\
 sframe why FILE ADDRESS PC
 sframe why FILE ADDRESS STACK STACK_ADDRESS PC SP FP LR FIRST MASK
     why a lookup or a caller comes to its answer, in numbers that can be checked by hand
 ";
 
-const CALLER: &[u8] = b"\
+const CALLER: &str = "\
 sframe caller FILE ADDRESS STACK STACK_ADDRESS PC SP FP LR FIRST [MASK]
     the registers of the caller
 ";
 
-const TRACE: &[u8] = b"\
+const TRACE: &str = "\
 sframe trace FILE ADDRESS STACK STACK_ADDRESS PC SP FP LR LIMIT [MASK]
     every caller in turn, at most LIMIT of them
 ";
 
-const HELP: &[u8] = b"\
+const HELP: &str = "\
 sframe help [COMMAND]
     this text, or what it says of one command; also --help, -h, and COMMAND --help
 ";
 
-const VERSION: &[u8] = b"\
+const VERSION: &str = "\
 sframe version
     the version of this program; also --version
 ";
 
 // How a command is typed, and what it is for.
-fn use_of(command: Command) -> &'static [u8] {
+fn use_of(command: Command) -> &'static str {
     match command {
         Command::Check => CHECK,
         Command::List => LIST,
@@ -115,7 +117,7 @@ fn use_of(command: Command) -> &'static [u8] {
 fn say_of_files(console: &Console) {
     say(
         console,
-        b"
+        "
 FILE has the bytes of an .sframe section, at most 16777216, and ADDRESS is where the section is loaded.
     objcopy -O binary --only-section=.sframe PROGRAM FILE    takes the section out of a program
 - as FILE or STACK is standard input.
@@ -126,7 +128,7 @@ FILE has the bytes of an .sframe section, at most 16777216, and ADDRESS is where
 fn say_of_walks(console: &Console) {
     say(
         console,
-        b"\
+        "\
 STACK has the bytes of the stack window, at most 16777216, and STACK_ADDRESS is where its first byte lies.
 PC, SP, FP and LR are the registers. FIRST is 0 for no first-frame mark, any other number for the mark.
 A caller looks up PC with the mark and PC - 1 without it; a trace looks up PC, then each RA - 1.
@@ -139,7 +141,7 @@ LIMIT is the most frames, up to 256, and 0 stands for 128.
 fn say_of_numbers(console: &Console) {
     say(
         console,
-        b"\
+        "\
 INDEX counts the functions from 0. INDEX and LIMIT are decimal, 1 to 19 digits.
 All other numbers given are hexadecimal, 1 to 16 digits, with or without a leading 0x or 0X. Leading zeros do not count.
 The status is 0 where the answer is given, 1 where it is refused (also a trace without a frame, and one refusal of several PCs),

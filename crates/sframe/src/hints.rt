@@ -1,46 +1,46 @@
 // What may help where a file is not what it was taken for: it goes to standard error, beside the answer.
 use crate::arguments::{is_input, note_file, note_given};
 use crate::console::Console;
-use crate::say::{note, note_number};
+use crate::say::note;
 use std::rt::Env;
 
 // Argument 2 is the section's file: here the program that it is taken from.
 fn note_program(rt: &impl Env, console: &Console) {
     if is_input(rt, 2) {
-        note(console, b"PROGRAM");
+        note(console, "PROGRAM");
         return;
     }
     note_given(rt, console, 2);
 }
 
 fn hint_of_elf(rt: &impl Env, console: &Console) {
-    note(console, b"sframe: ");
+    note(console, "sframe: ");
     note_file(rt, console, 2);
     note(
         console,
-        b" is an ELF file, not the bytes of a section. Its section is taken out by\n    objcopy -O binary --only-section=.sframe ",
+        " is an ELF file, not the bytes of a section. Its section is taken out by\n    objcopy -O binary --only-section=.sframe ",
     );
     note_program(rt, console);
-    note(console, b" section.sframe\n");
+    note(console, " section.sframe\n");
 }
 
 fn hint_of_empty(rt: &impl Env, console: &Console) {
-    note(console, b"sframe: ");
+    note(console, "sframe: ");
     note_file(rt, console, 2);
     note(
         console,
-        b" is empty: was it taken from a program that has no .sframe section? 'readelf -SW PROGRAM' lists its sections\n",
+        " is empty: was it taken from a program that has no .sframe section? 'readelf -SW PROGRAM' lists its sections\n",
     );
 }
 
 fn hint_of_version(rt: &impl Env, console: &Console, version: u8) {
-    note(console, b"sframe: ");
+    note(console, "sframe: ");
     note_file(rt, console, 2);
-    note(console, b" is a section of version ");
-    note_number(console, version as u64);
     note(
         console,
-        b", and version 2 is read, which GNU binutils 2.41 to 2.45 write\n",
+        format_args!(
+            " is a section of version {version}, and version 2 is read, which GNU binutils 2.41 to 2.45 write\n"
+        ),
     );
 }
 
@@ -71,7 +71,7 @@ pub fn hint_of_unlinked(console: &Console, section: &[u8]) {
     if is_start_empty(section, first) && is_start_empty(section, first + 20) {
         note(
             console,
-            b"sframe: no start is filled in, as in an object file that is not linked: take the section from the linked program\n",
+            "sframe: no start is filled in, as in an object file that is not linked: take the section from the linked program\n",
         );
     }
 }

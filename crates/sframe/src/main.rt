@@ -8,18 +8,17 @@ mod arguments;
 mod console;
 mod help;
 mod hints;
-mod line;
 mod list;
 mod refusals;
 mod rooms;
 mod say;
 mod sections;
-mod sentence;
 mod show;
 mod show_step_why;
 mod show_walks;
 mod show_why;
 mod status;
+mod text;
 mod version;
 mod walks;
 
@@ -40,7 +39,7 @@ fn are_taken(
     console: &Console,
     given: usize,
     taken: RangeInclusive<usize>,
-    complaint: &[u8],
+    complaint: &str,
 ) -> bool {
     let fits = taken.contains(&given);
     if !fits {
@@ -51,15 +50,15 @@ fn are_taken(
 
 // How many arguments a question takes, and what is said of any other number. Why a lookup comes to its answer takes as many as the
 // lookup of one PC; any other number is taken for that of a caller.
-fn taken_by(question: Question) -> (RangeInclusive<usize>, &'static [u8]) {
+fn taken_by(question: Question) -> (RangeInclusive<usize>, &'static str) {
     match question {
-        Question::Check => (1..=1, b"sframe: 'check' takes FILE\n"),
-        Question::List => (1..=2, b"sframe: 'list' takes FILE [INDEX]\n"),
+        Question::Check => (1..=1, "sframe: 'check' takes FILE\n"),
+        Question::List => (1..=2, "sframe: 'list' takes FILE [INDEX]\n"),
         Question::Lookup => (
             3..=usize::MAX,
-            b"sframe: 'lookup' takes FILE ADDRESS PC...\n",
+            "sframe: 'lookup' takes FILE ADDRESS PC...\n",
         ),
-        Question::Ask => (3..=usize::MAX, b"sframe: 'ask' takes FILE ADDRESS PC...\n"),
+        Question::Ask => (3..=usize::MAX, "sframe: 'ask' takes FILE ADDRESS PC...\n"),
         Question::Why => (3..=3, WHY_TAKES),
         Question::Walks(Sought::Why) => (10..=10, WHY_TAKES),
         Question::Walks(Sought::Caller) => (9..=10, CALLER_TAKES),
@@ -67,14 +66,14 @@ fn taken_by(question: Question) -> (RangeInclusive<usize>, &'static [u8]) {
     }
 }
 
-const WHY_TAKES: &[u8] =
-    b"sframe: 'why' takes FILE ADDRESS PC, or FILE ADDRESS STACK STACK_ADDRESS PC SP FP LR FIRST MASK\n";
+const WHY_TAKES: &str =
+    "sframe: 'why' takes FILE ADDRESS PC, or FILE ADDRESS STACK STACK_ADDRESS PC SP FP LR FIRST MASK\n";
 
-const CALLER_TAKES: &[u8] =
-    b"sframe: 'caller' takes FILE ADDRESS STACK STACK_ADDRESS PC SP FP LR FIRST [MASK]\n";
+const CALLER_TAKES: &str =
+    "sframe: 'caller' takes FILE ADDRESS STACK STACK_ADDRESS PC SP FP LR FIRST [MASK]\n";
 
-const TRACE_TAKES: &[u8] =
-    b"sframe: 'trace' takes FILE ADDRESS STACK STACK_ADDRESS PC SP FP LR LIMIT [MASK]\n";
+const TRACE_TAKES: &str =
+    "sframe: 'trace' takes FILE ADDRESS STACK STACK_ADDRESS PC SP FP LR LIMIT [MASK]\n";
 
 fn ask_if_taken<R: Env + Files + Input>(
     rt: &R,
@@ -93,7 +92,7 @@ fn answer_help(rt: &impl Env, console: &Console, given: usize) {
         show_help(console);
         return;
     }
-    if are_taken(console, given, 1..=1, b"sframe: 'help' takes [COMMAND]\n") {
+    if are_taken(console, given, 1..=1, "sframe: 'help' takes [COMMAND]\n") {
         let mut room = [0u8; ARGUMENT];
         show_help_of(console, argument(rt, 2, &mut room));
     }
@@ -104,7 +103,7 @@ fn answer_version(console: &Console, given: usize) {
         console,
         given,
         0..=0,
-        b"sframe: 'version' takes no arguments\n",
+        "sframe: 'version' takes no arguments\n",
     ) {
         show_version(console);
     }
@@ -138,7 +137,7 @@ fn is_help_asked(rt: &impl Env, given: usize) -> bool {
 // With the program's name and at least one argument.
 fn run_first<R: Env + Files + Input>(rt: &R, console: &Console, count: usize) {
     if count < 2 {
-        complain(console, b"sframe: no command; 'sframe help' lists them\n");
+        complain(console, "sframe: no command; 'sframe help' lists them\n");
         return;
     }
     let given = count - 2;
@@ -155,7 +154,7 @@ fn main(rt: HostRuntime) {
     if is_output_open(&console) {
         run_first(&rt, &console, argument_count(&rt));
     } else {
-        complain(&console, b"sframe: standard output is closed\n");
+        complain(&console, "sframe: standard output is closed\n");
     }
     tell_end(&rt, &console);
 }

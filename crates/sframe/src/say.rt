@@ -2,9 +2,9 @@
 use crate::console::Console;
 use crate::status::tell_wrong;
 use reading::Worded;
-use std::io;
-use std::io::Write;
+use std::io::Print;
 use std::os::fd::AsFd;
+use std::{fmt, io};
 
 // The system's number for a descriptor that is closed, or not open for what is asked of it.
 const BAD_DESCRIPTOR: i32 = 9;
@@ -27,10 +27,7 @@ fn is_bad_descriptor(error: &io::Error) -> bool {
 // One that is open, but not for writing. Where it is closed, that was told before.
 fn close_unwritable(console: &Console) {
     if is_output_open(console) {
-        note(
-            console,
-            b"sframe: standard output is not open for writing\n",
-        );
+        note(console, "sframe: standard output is not open for writing\n");
         console.give_up();
         tell_wrong(console);
     }
@@ -47,72 +44,45 @@ fn keep(console: &Console, written: io::Result<()>) {
         return;
     }
     console.give_up();
-    complain_of_error(console, b"sframe: standard output", error);
+    complain_of_error(console, "sframe: standard output", error);
 }
 
-pub fn say(console: &Console, text: &[u8]) {
+pub fn say<T: fmt::Display + Drop>(console: &Console, text: T) {
     if !console.is_given_up() {
-        keep(console, console.out.write_all(text));
-    }
-}
-
-pub fn say_number(console: &Console, n: u64) {
-    if !console.is_given_up() {
-        keep(console, print!(console.out; "{n}"));
-    }
-}
-
-// A word in 16 hexadecimal digits.
-pub fn say_word(console: &Console, word: u64) {
-    if !console.is_given_up() {
-        keep(console, print!(console.out; "{word:016x}"));
-    }
-}
-
-// In hexadecimal, with no leading zeros.
-pub fn say_hex(console: &Console, n: u64) {
-    if !console.is_given_up() {
-        keep(console, print!(console.out; "{n:x}"));
+        keep(console, console.out.print(text));
     }
 }
 
 // A part of a message on standard error. Where that cannot be written, there is nowhere to say so.
-pub fn note(console: &Console, text: &[u8]) {
-    let _ = console.err.write_all(text);
-}
-
-pub fn note_number(console: &Console, n: u64) {
-    let _ = print!(console.err; "{n}");
-}
-
-// A byte of an argument: one that a terminal might obey is written as its number.
-fn note_byte(console: &Console, byte: u8) {
-    match byte {
-        b'\\' => note(console, b"\\\\"),
-        b' '..=b'~' => note(console, &[byte]),
-        _ => {
-            let _ = print!(console.err; "\\x{byte:02x}");
-        }
-    }
-}
-
-// An argument as it was given.
-pub fn note_argument(console: &Console, text: &[u8]) {
-    for byte in text {
-        note_byte(console, *byte);
-    }
-}
-
-// What failed, as the caller names it, and what the system says of the error.
-pub fn complain_of_error(console: &Console, what: &[u8], error: io::Error) {
-    let worded = Worded(error);
-    note(console, what);
-    let _ = print!(console.err; ": {worded}");
-    complain(console, b"\n");
+pub fn note<T: fmt::Display + Drop>(console: &Console, text: T) {
+    let _ = console.err.print(text);
 }
 
 // The last part of a message about what is wrong, or all of it.
-pub fn complain(console: &Console, text: &[u8]) {
+pub fn complain<T: fmt::Display + Drop>(console: &Console, text: T) {
     note(console, text);
     tell_wrong(console);
+}
+
+// What failed, as the caller names it, and what the system says of the error.
+pub fn complain_of_error<T: fmt::Display + Drop>(console: &Console, what: T, error: io::Error) {
+    let worded = Worded(error);
+    complain(console, format_args!("{what}: {worded}\n"));
+}
+
+// An argument as it was given. A byte that a terminal might obey is written as its number.
+#[derive(Clone, Copy)]
+pub struct Given<'a>(pub &'a [u8]);
+
+impl fmt::Display for Given<'_> {
+    fn fmt<W: fmt::Write>(&self, f: &mut fmt::Formatter<W>) -> fmt::Result {
+        for byte in self.0 {
+            match *byte {
+                b'\\' => f.write_str("\\\\")?,
+                b' '..=b'~' => f.write_char(*byte as char)?,
+                _ => write!(f, "\\x{byte:02x}")?,
+            }
+        }
+        Ok(())
+    }
 }

@@ -3,7 +3,7 @@ use crate::answers::{Question, answer};
 use crate::arguments::{Opened, complain_of_length, open_given, read_given};
 use crate::console::Console;
 use crate::rooms::{LARGEST, Long, in_rooms, largest_within, left_for_rooms, stack_limit};
-use crate::say::{complain, note, note_number};
+use crate::say::complain;
 use std::rt::{Env, Files};
 
 // Argument 2 is the section, whatever is asked. A file that fills the largest room is longer than any section may be, and so are the
@@ -29,11 +29,12 @@ fn ask_in<R: Env + Files + Input>(
 }
 
 fn complain_of_stack(rt: &impl Files, console: &Console) {
-    note(console, b"sframe: the stack limit of ");
-    note_number(console, stack_limit(rt));
+    let limit = stack_limit(rt);
     complain(
         console,
-        b" bytes leaves no room to read a file: 'ulimit -s' raises it\n",
+        format_args!(
+            "sframe: the stack limit of {limit} bytes leaves no room to read a file: 'ulimit -s' raises it\n"
+        ),
     );
 }
 
@@ -43,7 +44,7 @@ pub fn ask<R: Env + Files + Input>(rt: &R, console: &Console, question: Question
         complain_of_stack(rt, console);
         return;
     };
-    let Some(opened) = open_given(rt, console, 2, b"sframe: FILE") else {
+    let Some(opened) = open_given(rt, console, 2, "sframe: FILE") else {
         return;
     };
     let mut opened = opened;

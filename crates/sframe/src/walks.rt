@@ -35,14 +35,14 @@ struct Walk<'a> {
 fn start_given(rt: &impl Env, console: &Console, address: u64) -> Option<(Process, Registers)> {
     let process = Process {
         section: address,
-        stack: number_given(rt, console, 5, b"STACK_ADDRESS")?,
+        stack: number_given(rt, console, 5, "STACK_ADDRESS")?,
         mask: 0,
     };
     let registers = Registers {
-        pc: number_given(rt, console, 6, b"PC")?,
-        sp: number_given(rt, console, 7, b"SP")?,
-        fp: number_given(rt, console, 8, b"FP")?,
-        lr: number_given(rt, console, 9, b"LR")?,
+        pc: number_given(rt, console, 6, "PC")?,
+        sp: number_given(rt, console, 7, "SP")?,
+        fp: number_given(rt, console, 8, "FP")?,
+        lr: number_given(rt, console, 9, "LR")?,
         first: 0,
     };
     Some((process, registers))
@@ -53,7 +53,7 @@ fn mask_given(rt: &impl Env, console: &Console) -> Option<u64> {
     if argument_count(rt) < 12 {
         return Some(0);
     }
-    number_given(rt, console, 11, b"MASK")
+    number_given(rt, console, 11, "MASK")
 }
 
 fn trace_from(
@@ -77,17 +77,17 @@ fn answer_from(rt: &impl Env, console: &Console, walk: Walk<'_>, stack: &[u8]) -
     let (mut process, mut registers) = start_given(rt, console, walk.address)?;
     match walk.sought {
         Sought::Trace => {
-            let limit = count_given(rt, console, 10, b"LIMIT")?;
+            let limit = count_given(rt, console, 10, "LIMIT")?;
             process.mask = mask_given(rt, console)?;
             trace_from(console, section, stack, process, registers, limit);
         }
         Sought::Caller => {
-            registers.first = number_given(rt, console, 10, b"FIRST")?;
+            registers.first = number_given(rt, console, 10, "FIRST")?;
             process.mask = mask_given(rt, console)?;
             show_step(console, section, registers.step(section, stack, process));
         }
         Sought::Why => {
-            registers.first = number_given(rt, console, 10, b"FIRST")?;
+            registers.first = number_given(rt, console, 10, "FIRST")?;
             process.mask = mask_given(rt, console)?;
             show_step_why(console, section, stack, process, registers);
         }
@@ -118,7 +118,7 @@ fn is_one_input(rt: &impl Env, console: &Console) -> bool {
     if !is_one {
         complain(
             console,
-            b"sframe: FILE and STACK cannot both be standard input\n",
+            "sframe: FILE and STACK cannot both be standard input\n",
         );
     }
     is_one
@@ -126,7 +126,7 @@ fn is_one_input(rt: &impl Env, console: &Console) -> bool {
 
 // In a room up to this one.
 fn walk_opened<R: Env + Files + Input>(rt: &R, console: &Console, walk: Walk<'_>, largest: Room) {
-    let Some(opened) = open_given(rt, console, 4, b"sframe: STACK") else {
+    let Some(opened) = open_given(rt, console, 4, "sframe: STACK") else {
         return;
     };
     let mut opened = opened;
@@ -146,7 +146,7 @@ pub fn answer_walk<R: Env + Files + Input>(
     section: &[u8],
     left: u64,
 ) {
-    let Some(address) = number_given(rt, console, 3, b"ADDRESS") else {
+    let Some(address) = number_given(rt, console, 3, "ADDRESS") else {
         return;
     };
     if is_one_input(rt, console) {
