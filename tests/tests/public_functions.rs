@@ -488,11 +488,18 @@ fn static_libraries() -> Vec<String> {
     crates.lines().filter_map(|line| line.split_once(" staticlib:")).map(|(name, _)| name.to_string()).collect()
 }
 
-/// The public functions of all libraries, but for the static ones.
+/// The libraries that are parts of programs: what they read and write is no more a reply than what those do.
+const OF_PROGRAMS: [&str; 2] = ["reading", "stored"];
+
+fn is_of_programs(path: &Path) -> bool {
+    path.join("src/main.rt").exists() || OF_PROGRAMS.iter().any(|name| path.ends_with(name))
+}
+
+/// The public functions of all libraries, but for the static ones and the parts of programs.
 fn of_libraries() -> Vec<Function> {
     let is_static = |path: &PathBuf| static_libraries().iter().any(|name| path.ends_with(name));
     let libraries = listed(&in_repository("crates")).into_iter().filter(|path| path.join("src/lib.rt").exists());
-    let libraries = libraries.filter(|path| !is_static(path));
+    let libraries = libraries.filter(|path| !is_static(path) && !is_of_programs(path));
     let mut functions = Vec::new();
     for library in libraries {
         let name = library.file_name().and_then(|name| name.to_str()).expect("a name");
@@ -543,7 +550,7 @@ fn a_static_library_says_and_does_what_its_library_does() {
 
 #[test]
 fn every_public_function_of_a_program_is_excepted() {
-    let programs = listed(&in_repository("crates")).into_iter().filter(|path| path.join("src/main.rt").exists());
+    let programs = listed(&in_repository("crates")).into_iter().filter(|path| is_of_programs(path));
     let sources: Vec<Source> = programs.flat_map(|program| sources_in(&program.join("src"), "")).collect();
     let functions: Vec<Found> = sources.iter().flat_map(|source| public_functions(&source.text)).collect();
     let document = text_of(&in_repository("docs/PROMISES.md"));

@@ -1,6 +1,6 @@
--- What the digits of a number come to: one digit by its byte, one more behind those read, and how large it all gets.
+-- What the digits of a number come to: one more behind those read, how large it all gets, and what stands in front of them.
 -- Assumes nothing.
-use mathlib.Core.Path.{◌≡◌, refl}
+use mathlib.Core.Path.{◌≡◌, refl, sym}
 use mathlib.Core.Bool.{Bool, true, false, ◌&&◌}
 use mathlib.Core.List.{List, [], ◌∷◌}
 use Prim.Native.Nat.{ℕ, suc, ◌+◌, ◌-◌, ◌*◌, ◌^◌, ◌≤◌, ◌<◌}
@@ -12,7 +12,7 @@ use lib.ListN.{length, take, drop, get_or, length-drop, drop_of_length-le}
 use lib.Seq.{drop-cons, take_all}
 use borrow.Author.Tests.{eq-eqb, ne_eqb, le-leb, lt-leb, lt-ltb, le-ltb}
 use Rattle.digits.specs.Digits.{is_between, digit_of, digits_from, digits_of, padding, number_of, is_x, marked, hex_of}
-use Rattle.digits.specs.declared.Parsed.TheVariants.{Number, Wrong}
+use Rattle.std.specs.Prelude.{Some, None}
 
 -- ---- between two bounds
 
@@ -25,54 +25,14 @@ below low high n p = rw (lt-leb low n p)
 pub above : (low high n : ℕ) → low ≤ n → high < n → is_between low high n ≡ false
 above low high n p q = rw (le-leb low n p) (lt-leb n high q)
 
--- ---- one digit
-
-module _ (byte : ℕ) where
-  pub decimal : 48 ≤ byte → byte ≤ 57 → digit_of byte ≡ byte - 48
-  unfolding digit_of
-  decimal p q = rw (between 48 57 byte p q, digit_of)
-
-  pub capital : 65 ≤ byte → byte ≤ 70 → digit_of byte ≡ byte - 55
-  unfolding digit_of
-  capital p q = rw (above 48 57 byte (omega arith) (omega arith), digit_of) (rw (between 65 70 byte p q))
-
-  pub small : 97 ≤ byte → byte ≤ 102 → digit_of byte ≡ byte - 87
-  unfolding digit_of
-  small p q =
-      rw (above 48 57 byte (omega arith) (omega arith), digit_of)
-      (rw (above 65 70 byte (omega arith) (omega arith)) (rw (between 97 102 byte p q)))
-
-  -- the four gaps
-  pub low_gap : byte < 48 → digit_of byte ≡ 16
-  unfolding digit_of
-  low_gap p =
-      rw (below 48 57 byte p, digit_of) (rw (below 65 70 byte (omega arith)) (rw (below 97 102 byte (omega arith))))
-
-  pub capital_gap : 57 < byte → byte < 65 → digit_of byte ≡ 16
-  unfolding digit_of
-  capital_gap p q =
-      rw (above 48 57 byte (omega arith) p, digit_of) (rw (below 65 70 byte q) (rw (below 97 102 byte (omega arith))))
-
-  pub small_gap : 70 < byte → byte < 97 → digit_of byte ≡ 16
-  unfolding digit_of
-  small_gap p q =
-      rw (above 48 57 byte (omega arith) (omega arith), digit_of)
-      (rw (above 65 70 byte (omega arith) p) (rw (below 97 102 byte q)))
-
-  pub high_gap : 102 < byte → digit_of byte ≡ 16
-  unfolding digit_of
-  high_gap p =
-      rw (above 48 57 byte (omega arith) (omega arith), digit_of)
-      (rw (above 65 70 byte (omega arith) (omega arith)) (rw (above 97 102 byte (omega arith) p)))
-
 -- ---- how many digits
 
 module _ (base most : ℕ) (text : List ℕ) where
-  pub too_few : length text < 1 → digits_of base most text ≡ Wrong
+  pub too_few : length text < 1 → digits_of base most text ≡ None
   unfolding digits_of
   too_few p = rw (below 1 most (length text) p, digits_of)
 
-  pub too_many : 1 ≤ length text → most < length text → digits_of base most text ≡ Wrong
+  pub too_many : 1 ≤ length text → most < length text → digits_of base most text ≡ None
   unfolding digits_of
   too_many o p = rw (above 1 most (length text) o p, digits_of)
 
@@ -90,12 +50,12 @@ module _ (base n : ℕ) (text : List ℕ) (i : ℕ) where
       rw (add-one, e, drop-cons text i 0 p) (rw (lt-ltb (digit_of (get_or text i 0)) base (rw e at q), digits_from))
 
   pub digits_wrong : (d : ℕ) → i < length text → d ≡ digit_of (get_or text i 0) → base ≤ d
-      → digits_from base n (drop i text) ≡ Wrong
+      → digits_from base n (drop i text) ≡ None
   unfolding digits_from
   digits_wrong d p e q =
       rw (drop-cons text i 0 p) (rw (le-ltb (digit_of (get_or text i 0)) base (rw e at q), digits_from))
 
-  pub digits_done : length text ≤ i → digits_from base n (drop i text) ≡ Number n
+  pub digits_done : length text ≤ i → digits_from base n (drop i text) ≡ Some n
   unfolding digits_from
   digits_done p = rw (drop_of_length-le text p)
 
@@ -117,79 +77,99 @@ room_for_one base most n i d two fits less p q =
 -- ---- leading zeros
 
 -- the last byte is no leading zero
-padding_last : (text : List ℕ) → length text ≤ 1 → padding text ≡ 0
+padding_last : (text : List ℕ) → length text < 2 → padding text ≡ 0
 unfolding padding
 padding_last [] p = refl
 padding_last (byte ∷ []) p = refl
 padding_last (byte ∷ next ∷ text) p = absurd (omega arith)
 
-pub padding_begins : (text : List ℕ) → padding text ≡ 0 + padding (drop 0 text)
-padding_begins text = omega arith
+two_of : (text : List ℕ) → 2 ≤ length text → text ≡ get_or text 0 0 ∷ get_or text 1 0 ∷ drop 2 text
+two_of [] p = absurd (omega arith)
+two_of (byte ∷ []) p = absurd (omega arith)
+two_of (byte ∷ next ∷ text) p = refl
 
--- where the first i bytes are counted, and those from there on are still to come
-module _ (text : List ℕ) (i : ℕ) (counted : padding text ≡ i + padding (drop i text)) where
-  pub padding_ends : length text - i ≤ 1 → padding text ≡ i
-  padding_ends p = let none = padding_last (drop i text) (simp length-drop (omega arith)) in omega arith
-
-  module _ (more : 1 < length text - i) where
-    two : drop i text ≡ get_or text i 0 ∷ get_or text (suc i) 0 ∷ drop (suc (suc i)) text
-    two = rw (drop-cons text i 0 (omega arith)) (rw (drop-cons text (suc i) 0 (omega arith)) refl)
-
-    other : (get_or text i 0 ≡ 48 → ⊥) → padding (drop i text) ≡ 0
-    unfolding padding
-    other n = rw two (rw (ne_eqb (get_or text i 0) 48 n, padding))
-
-    zero : get_or text i 0 ≡ 48 → padding (drop i text) ≡ suc (padding (drop (suc i) text))
-    unfolding padding
-    zero e = rw two (rw (eq-eqb (get_or text i 0) 48 e, padding) (rw (drop-cons text (suc i) 0 (omega arith)) refl))
-
-    pub padding_stops : (get_or text i 0 ≡ 48 → ⊥) → padding text ≡ i
-    padding_stops n = let none = other n in omega arith
-
-    pub padding_goes_on : get_or text i 0 ≡ 48 → padding text ≡ (i + 1) + padding (drop (i + 1) text)
-    padding_goes_on e = let one = zero e in rw add-one (omega arith)
-
-pub padding_within : (text : List ℕ) → padding text ≤ length text
+padding_other : (text : List ℕ) → 2 ≤ length text → (get_or text 0 0 ≡ 48 → ⊥) → padding text ≡ 0
 unfolding padding
-padding_within [] = omega arith
-padding_within (byte ∷ []) = omega arith
-padding_within (byte ∷ next ∷ text) = either (eqb byte 48) (padding_within (next ∷ text)) where
-  either : (is_zero : Bool) → padding (next ∷ text) ≤ length (next ∷ text)
-      → elim is_zero [ true ↦ suc (padding (next ∷ text)) | false ↦ 0 ] ≤ length (byte ∷ next ∷ text)
-  either true p = omega arith
-  either false p = omega arith
+padding_other [] p n = refl
+padding_other (byte ∷ []) p n = refl
+padding_other (byte ∷ next ∷ text) p n = rw (ne_eqb byte 48 n, padding)
+
+padding_zero : (text : List ℕ) → 2 ≤ length text → get_or text 0 0 ≡ 48 → padding text ≡ suc (padding (drop 1 text))
+unfolding padding
+padding_zero [] p e = absurd (omega arith)
+padding_zero (byte ∷ []) p e = absurd (omega arith)
+padding_zero (byte ∷ next ∷ text) p e = rw (eq-eqb byte 48 e, padding)
 
 -- the code's part of text behind its first bytes
 behind : (n : ℕ) (text : List ℕ) → take (length text - n) (drop n text) ≡ drop n text
 behind n text = take_all (length text - n) (drop n text) (simp length-drop (omega arith))
 
-pub number_behind : (base most : ℕ) (text : List ℕ) → number_of base most text
-    ≡ digits_of base most (take (length text - padding text) (drop (padding text) text))
-unfolding number_of
-number_behind base most text = rw (behind (padding text) text) refl
+-- text without its leading zeros: a zero taken off, and none left, either at the last byte or at another
+pub zero_off : (text : List ℕ) → 2 ≤ length text → get_or text 0 0 ≡ 48
+    → drop (padding (take (length text - 1) (drop 1 text))) (take (length text - 1) (drop 1 text)) ≡ drop (padding text) text
+zero_off [] p e = absurd (omega arith)
+zero_off (byte ∷ text) p e = rw (behind 1 (byte ∷ text)) (rw (padding_zero (byte ∷ text) p e) refl)
+
+pub last_left : (text : List ℕ) → length text < 2 → text ≡ drop (padding text) text
+last_left text p = rw (padding_last text p) refl
+
+pub other_left : (text : List ℕ) → 2 ≤ length text → (get_or text 0 0 ≡ 48 → ⊥) → text ≡ drop (padding text) text
+other_left text p n = rw (padding_other text p n) refl
 
 -- ---- the leading 0x
+
+zero_x : (text : List ℕ) → 2 ≤ length text → get_or text 0 0 ≡ 48 → is_x (get_or text 1 0) ≡ true → marked text ≡ true
+unfolding marked
+zero_x text p e f = rw (eq-eqb (get_or text 0 0) 48 e, marked) f
+
+marked_hex : (text : List ℕ) → marked text ≡ true → hex_of text ≡ number_of 16 16 (take (length text - 2) (drop 2 text))
+unfolding hex_of
+marked_hex text e = rw (behind 2 text) (rw (e, hex_of) refl)
+
+plain_hex : (text : List ℕ) → marked text ≡ false → hex_of text ≡ number_of 16 16 text
+unfolding hex_of
+plain_hex text e = rw (e, hex_of) refl
+
+small_x : (byte : ℕ) → byte ≡ 120 → is_x byte ≡ true
+unfolding is_x
+small_x byte e = rw (eq-eqb byte 120 e, is_x) refl
+
+capital_x : (byte : ℕ) → byte ≡ 88 → is_x byte ≡ true
+unfolding is_x
+capital_x byte e = rw e refl
+
+no_x : (byte : ℕ) → (byte ≡ 120 → ⊥) → (byte ≡ 88 → ⊥) → is_x byte ≡ false
+unfolding is_x
+no_x byte m n = rw (ne_eqb byte 120 m, is_x) (ne_eqb byte 88 n)
 
 and_false : (b : Bool) → (b && false) ≡ false
 and_false true = refl
 and_false false = refl
 
-pub marked_short : (text : List ℕ) → length text < 2 → marked text ≡ false
+short : (text : List ℕ) → length text < 2 → marked text ≡ false
 unfolding marked is_x
-marked_short [] p = refl
-marked_short (a ∷ []) p = and_false (eqb a 48)
-marked_short (a ∷ b ∷ text) p = absurd (omega arith)
+short [] p = refl
+short (a ∷ []) p = and_false (eqb a 48)
+short (a ∷ b ∷ text) p = absurd (omega arith)
 
-pub marked_long : (text : List ℕ) → marked text ≡ true → 2 ≤ length text
-unfolding marked is_x
-marked_long [] e = let z : ◌≡◌ {A = ℕ} 0 1 = cc in absurd (omega arith)
-marked_long (a ∷ []) e = let z : ◌≡◌ {A = ℕ} 0 1 = cc (and_false (eqb a 48)) in absurd (omega arith)
-marked_long (a ∷ b ∷ text) e = omega arith
+module _ (text : List ℕ) where
+  pub hex_small : 2 ≤ length text → get_or text 0 0 ≡ 48 → get_or text 1 0 ≡ 120
+      → number_of 16 16 (take (length text - 2) (drop 2 text)) ≡ hex_of text
+  hex_small p e f = sym (marked_hex text (zero_x text p e (small_x _ f)))
 
-pub hex_marked : (text : List ℕ) → marked text ≡ true → hex_of text ≡ number_of 16 16 (take (length text - 2) (drop 2 text))
-unfolding hex_of
-hex_marked text e = rw (behind 2 text) (rw (e, hex_of))
+  pub hex_capital : 2 ≤ length text → get_or text 0 0 ≡ 48 → get_or text 1 0 ≡ 88
+      → number_of 16 16 (take (length text - 2) (drop 2 text)) ≡ hex_of text
+  hex_capital p e f = sym (marked_hex text (zero_x text p e (capital_x _ f)))
 
-pub hex_plain : (text : List ℕ) → marked text ≡ false → hex_of text ≡ number_of 16 16 text
-unfolding hex_of
-hex_plain text e = rw (e, hex_of)
+  -- text that is too short, that begins otherwise, or with another byte behind its 0
+  pub hex_short : length text < 2 → number_of 16 16 text ≡ hex_of text
+  hex_short p = sym (plain_hex text (short text p))
+
+  pub hex_other : (get_or text 0 0 ≡ 48 → ⊥) → number_of 16 16 text ≡ hex_of text
+  unfolding marked
+  hex_other n = sym (plain_hex text (rw (ne_eqb (get_or text 0 0) 48 n, marked) refl))
+
+  pub hex_unmarked : get_or text 0 0 ≡ 48 → (get_or text 1 0 ≡ 120 → ⊥) → (get_or text 1 0 ≡ 88 → ⊥)
+      → number_of 16 16 text ≡ hex_of text
+  unfolding marked
+  hex_unmarked e m n = sym (plain_hex text (rw (eq-eqb (get_or text 0 0) 48 e, marked) (no_x _ m n)))

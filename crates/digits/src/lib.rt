@@ -1,17 +1,12 @@
 // Numbers as the command line gives them: addresses in hexadecimal, 1 to 16 digits, with or without a leading 0x or 0X; counts in
-// decimal, 1 to 19 digits. Leading zeros do not count.
+// decimal, 1 to 19 digits. Leading zeros do not count. Any other text is no number.
 #![tactic(auto)]
 
-ghost use Rattle.std.specs.Prelude.{◌≡◌, ◌≤◌, ◌^◌};
-ghost use Rattle.digits.specs.Digits.{digit_of, digits_of, padding, number_of, is_x, marked, hex_of, decimal_of};
+ghost use Rattle.std.specs.Prelude.{◌≡◌, ◌≤◌, ◌^◌, drop};
+ghost use Rattle.digits.specs.Digits.{digit_of, digits_of, padding, number_of, hex_of, decimal_of};
 
-#[derive(Clone, Copy)]
-pub enum Parsed {
-    Number(u64),
-    Wrong,
-}
-
-// The value of a digit, and 16 of a byte that is none.
+// The value of a digit. A byte that is none has 16, which no base takes.
+#[tactic(auto, unfolding(crate::specs::Digits::digit_of))]
 fn digit_of(byte: u8) -> u64
     ensures { result ≡ digit_of byte }
 {
@@ -24,86 +19,57 @@ fn digit_of(byte: u8) -> u64
 }
 
 // The number that digits to a base make: so few of them that no sum wraps.
-fn digits_of(text: &[u8], base: u64, most: usize) -> Parsed
+fn digits_of(text: &[u8], base: u64, most: usize) -> Option<u64>
     requires { (2 ≤ base) × (base ^ most ≤ 2 ^ 64) }
     ensures { result ≡ digits_of base most text.now }
 {
-    if text.len() < 1 {
-        return Parsed::Wrong;
-    }
-    if most < text.len() {
-        return Parsed::Wrong;
+    if text.is_empty() || most < text.len() {
+        return None;
     }
     let mut n = 0;
-    let mut i = 0;
-    while i < text.len() {
-        let digit = digit_of(text[i]);
+    for byte in text {
+        let digit = digit_of(*byte);
         if base <= digit {
-            return Parsed::Wrong;
+            return None;
         }
         n = base * n + digit;
-        i = i + 1;
     }
-    Parsed::Number(n)
+    Some(n)
 }
 
-// How many zeros stand in front of another byte.
-fn padding_of(text: &[u8]) -> usize
-    ensures { result ≡ padding text.now }
+// Text without the zeros that stand in front of another byte.
+fn without_padding(text: &[u8]) -> &[u8]
+    ensures { result.now ≡ drop (padding text.now) text.now }
 {
-    let mut i = 0;
-    while 1 < text.len() - i {
-        if text[i] != b'0' {
-            return i;
-        }
-        i = i + 1;
+    let mut rest = text;
+    while let [b'0', _, ..] = rest {
+        rest = &rest[1..];
     }
-    i
+    rest
 }
 
 // The number that digits to a base make behind their leading zeros.
-fn number_of(text: &[u8], base: u64, most: usize) -> Parsed
+#[tactic(auto, unfolding(crate::specs::Digits::number_of))]
+fn number_of(text: &[u8], base: u64, most: usize) -> Option<u64>
     requires { (2 ≤ base) × (base ^ most ≤ 2 ^ 64) }
     ensures { result ≡ number_of base most text.now }
 {
-    let zeros = padding_of(text);
-    digits_of(&text[zeros..], base, most)
-}
-
-fn is_x(byte: u8) -> bool
-    ensures { result ≡ is_x byte }
-{
-    if byte == b'x' {
-        return true;
-    }
-    byte == b'X'
-}
-
-// Whether text begins with 0x or 0X.
-fn is_marked(text: &[u8]) -> bool
-    ensures { result ≡ marked text.now }
-{
-    if text.len() < 2 {
-        return false;
-    }
-    if text[0] == b'0' {
-        return is_x(text[1]);
-    }
-    false
+    digits_of(without_padding(text), base, most)
 }
 
 // The hexadecimal number that text says.
-pub fn parse(text: &[u8]) -> Parsed
+pub fn parse(text: &[u8]) -> Option<u64>
     ensures { result ≡ hex_of text.now }
 {
-    if is_marked(text) {
-        return number_of(&text[2..], 16, 16);
+    match text {
+        [b'0', b'x' | b'X', digits @ ..] => number_of(digits, 16, 16),
+        _ => number_of(text, 16, 16),
     }
-    number_of(text, 16, 16)
 }
 
 // The decimal number that text says.
-pub fn parse_decimal(text: &[u8]) -> Parsed
+#[tactic(auto, unfolding(crate::specs::Digits::decimal_of))]
+pub fn parse_decimal(text: &[u8]) -> Option<u64>
     ensures { result ≡ decimal_of text.now }
 {
     number_of(text, 10, 19)

@@ -1,105 +1,92 @@
 // Why a lookup gives its answer, as a line.
-ghost use Rattle.std.specs.Prelude.{◌≤◌};
-
-use crate::found::{add_found, add_start};
-use crate::line::{add, add_number, add_offset};
+use crate::records::Record;
 use explain::looked::explain_lookup;
-use explain::why::{Covered, Coverers, FoundRow, LookupReason, NotFound};
+use explain::why::{Coverers, FoundRow, Looked, LookupReason, Nearest, NotFound, RowStart};
+use std::io::Write;
+use std::{fmt, io};
+use stored::Shown;
 
-// 1 to 15, of a lookup and of a step alike.
-pub fn add_refused(line: &mut [u8], at: usize, number: u64, index: u64) -> usize {
-    let end = add_number(line, at, b"refused ", number);
-    add_number(line, end, b" at ", index)
-}
+// Where a row starts.
+#[derive(Clone, Copy)]
+struct Start(RowStart);
 
-// The covered address nearest on one side, behind the side's name.
-fn add_near(line: &mut [u8], at: usize, name: &[u8], near: Option<Covered>) -> usize {
-    match near {
-        Some(Covered { offset, function }) => {
-            let end = add_offset(line, at, name, offset);
-            add_number(line, end, b" function ", function)
-        }
-        None => {
-            let end = add(line, at, name);
-            add(line, end, b"none")
+impl fmt::Display for Start {
+    fn fmt<W: fmt::Write>(&self, f: &mut fmt::Formatter<W>) -> fmt::Result {
+        match self.0 {
+            RowStart::Is(start) => write!(f, "{start}"),
+            RowStart::Missing => f.write_str("none"),
         }
     }
 }
 
-// How many of the functions that cover are told: the first 16.
-fn told_of(count: u64) -> usize
-    ensures { result ≤ 16 }
-{
-    if count < 16 {
-        return count as usize;
+// The covered address nearest on one side.
+#[derive(Clone, Copy)]
+struct Near(Nearest);
+
+impl fmt::Display for Near {
+    fn fmt<W: fmt::Write>(&self, f: &mut fmt::Formatter<W>) -> fmt::Result {
+        match self.0 {
+            Nearest::Covered { offset, function } => {
+                write!(f, "{:+} function {function}", offset.by)
+            }
+            Nearest::Nothing => f.write_str("none"),
+        }
     }
-    16
 }
 
-fn add_index(line: &mut [u8], at: usize, index: u64) -> usize {
-    add_number(line, at, b" ", index)
+// The row that was found, with the function and the offset that it was found by.
+pub fn show_found(out: &mut impl Write, found: FoundRow) -> io::Result<()> {
+    let FoundRow {
+        row,
+        function,
+        number,
+        offset,
+        next,
+    } = found;
+    let row = Shown(row);
+    let next = Start(next);
+    write!(
+        out,
+        "found function {function} offset {offset} row {number} {row} next {next}"
+    )
 }
 
-fn add_covering(line: &mut [u8], at: usize, coverers: Coverers) -> usize {
-    let indexes = coverers.indexes;
-    let told = told_of(coverers.count);
-    let mut end = add_number(line, at, b"22 covering ", coverers.count);
-    end = add(line, end, b":");
-    for i in 0..told {
-        end = add_index(line, end, indexes[i]);
+// How many functions cover, and the first 16 of them.
+fn show_coverers(out: &mut impl Write, coverers: Coverers) -> io::Result<()> {
+    let count = coverers.count;
+    write!(out, "22 covering {count}:")?;
+    for index in coverers.indexes.iter().take(count as usize) {
+        write!(out, " {index}")?;
     }
-    end
+    Ok(())
 }
 
 // 21 to 23.
-pub fn add_not_found(line: &mut [u8], at: usize, why: NotFound, coverers: Coverers) -> usize {
+pub fn show_not_found(out: &mut impl Write, why: NotFound, coverers: Coverers) -> io::Result<()> {
     match why {
         NotFound::NoFunction { below, above } => {
-            let end = add_near(line, at, b"21 below ", below);
-            add_near(line, end, b" above ", above)
+            write!(out, "21 below {} above {}", Near(below), Near(above))
         }
-        NotFound::Dispute => add_covering(line, at, coverers),
+        NotFound::Dispute => show_coverers(out, coverers),
         NotFound::NoRow {
             function,
             offset,
             first,
         } => {
-            let end = add_number(line, at, b"23 function ", function);
-            let end = add_number(line, end, b" offset ", offset);
-            add_start(line, end, b" first ", first)
+            let first = Start(first);
+            write!(out, "23 function {function} offset {offset} first {first}")
         }
     }
 }
 
-fn add_looked(
-    line: &mut [u8],
-    at: usize,
-    looked: Result<FoundRow, NotFound>,
-    coverers: Coverers,
-) -> usize {
-    match looked {
-        Ok(found) => add_found(line, at, found),
-        Err(why) => add_not_found(line, at, why, coverers),
-    }
-}
-
-fn add_lookup_reason(
-    line: &mut [u8],
-    at: usize,
-    reason: LookupReason,
-    coverers: Coverers,
-) -> usize {
-    match reason {
-        LookupReason::Unsound { number, index } => add_refused(line, at, number, index),
-        LookupReason::Accepted(looked) => add_looked(line, at, looked, coverers),
-    }
-}
-
-pub fn add_lookup(line: &mut [u8], at: usize, section: &[u8], address: u64, pc: u64) -> usize {
-    let why = explain_lookup(section, address, pc);
-    let reason = why.reason;
+pub fn show_lookup(out: &mut impl Write, record: Record<'_>) -> io::Result<()> {
+    let why = explain_lookup(record.section, record.process.section, record.registers.pc);
     let coverers = why.coverers;
-    let end = add(line, at, b"lookup ");
-    let end = add_lookup_reason(line, end, reason, coverers);
-    add(line, end, b"\n")
+    write!(out, "lookup ")?;
+    match why.reason {
+        LookupReason::Unsound { number, index } => write!(out, "refused {number} at {index}")?,
+        LookupReason::Accepted(Looked::Found(found)) => show_found(out, found)?,
+        LookupReason::Accepted(Looked::NotFound(why)) => show_not_found(out, why, coverers)?,
+    }
+    writeln!(out)
 }

@@ -1,14 +1,13 @@
 // What is asked of a section that was read, and the answer.
-use crate::arguments::{Given, address_and_pc_given, number_given};
+use crate::arguments::number_given;
 use crate::console::Console;
 use crate::hints::hint_of_file;
 use crate::list::answer_list;
-use crate::say::{say, say_word};
+use crate::say::say;
 use crate::show::{show_answer, show_asked, show_verdict};
 use crate::show_why::show_lookup_why;
 use crate::status::argument_count;
 use crate::walks::{Sought, answer_walk};
-use digits::Parsed;
 use lookup::look::lookup;
 use std::rt::{Env, Files};
 
@@ -23,83 +22,66 @@ pub enum Question {
     Walks(Sought),
 }
 
-// Whether every argument from 4 on is a PC: all are tried before one is looked up.
-fn are_pcs(rt: &impl Env, console: &Console, count: usize) -> bool {
-    for i in 4..count {
-        if let Parsed::Wrong = number_given(rt, console, i, b"PC") {
-            return false;
-        }
-    }
-    true
-}
-
-// Which PC an answer is of, where there are several.
-fn show_which_pc(console: &Console, several: bool, pc: u64) {
-    if several {
-        say(console, b"PC ");
-        say_word(console, pc);
-        say(console, b"\n");
-    }
-}
-
-// The answer for one PC, by a lookup or without a check of the section.
-fn answer_pc(console: &Console, checked: bool, section: &[u8], address: u64, pc: u64) {
-    if checked {
-        show_answer(console, section, pc, lookup(section, address, pc));
-        return;
-    }
-    show_asked(console, section, pc, ask::land::ask(section, address, pc));
-}
-
-fn answer_pcs(
-    rt: &impl Env,
-    console: &Console,
-    checked: bool,
-    section: &[u8],
-    address: u64,
-    count: usize,
-) {
-    for i in 4..count {
-        if let Parsed::Number(pc) = number_given(rt, console, i, b"PC") {
-            show_which_pc(console, 5 < count, pc);
-            answer_pc(console, checked, section, address, pc);
-        }
-    }
-}
-
-fn answer_lookups(rt: &impl Env, console: &Console, checked: bool, section: &[u8]) {
+// Shows the answer for each PC, by the section's address and the PC, unless what is wrong with one of the arguments was told: all are
+// tried before one is looked up.
+fn answer_pcs<F: Fn(u64, u64)>(rt: &impl Env, console: &Console, show: &F) -> Option<()>
+    requires { F.IsAlwaysCallable show.now }
+{
     let count = argument_count(rt);
-    let Parsed::Number(address) = number_given(rt, console, 3, b"ADDRESS") else {
-        return;
+    let address = number_given(rt, console, 3, "ADDRESS")?;
+    for i in 4..count {
+        number_given(rt, console, i, "PC")?;
+    }
+    for i in 4..count {
+        let pc = number_given(rt, console, i, "PC")?;
+        if 5 < count {
+            say(console, format_args!("PC {pc:016x}\n"));
+        }
+        show(address, pc);
+    }
+    Some(())
+}
+
+// Arguments 3 and 4, of one PC.
+fn answer_why(rt: &impl Env, console: &Console, section: &[u8]) -> Option<()> {
+    let address = number_given(rt, console, 3, "ADDRESS")?;
+    let pc = number_given(rt, console, 4, "PC")?;
+    show_lookup_why(console, section, address, pc);
+    Some(())
+}
+
+fn answer_lookups(rt: &impl Env, console: &Console, section: &[u8]) {
+    let show = |address: u64, pc: u64| {
+        show_answer(console, section, pc, lookup(section, address, pc))
     };
-    if are_pcs(rt, console, count) {
-        answer_pcs(rt, console, checked, section, address, count);
-    }
+    let _ = answer_pcs(rt, console, &show);
 }
 
-fn answer_why(rt: &impl Env, console: &Console, section: &[u8]) {
-    match address_and_pc_given(rt, console) {
-        Given::Wrong => {}
-        Given::At { address, pc } => show_lookup_why(console, section, address, pc),
-    }
+// The same without a check of the section.
+fn answer_asks(rt: &impl Env, console: &Console, section: &[u8]) {
+    let show = |address: u64, pc: u64| {
+        show_asked(console, section, pc, ask::land::ask(section, address, pc))
+    };
+    let _ = answer_pcs(rt, console, &show);
 }
 
-// With `given` arguments behind the command, and so much of the stack left for the room of a stack window.
-pub fn answer(
-    rt: &(impl Env + Files + Input),
+// With so much of the stack left for the room of a stack window.
+pub fn answer<R: Env + Files + Input>(
+    rt: &R,
     console: &Console,
     question: Question,
     section: &[u8],
-    given: usize,
     left: u64,
 ) {
     hint_of_file(rt, console, section);
     match question {
         Question::Check => show_verdict(console, section),
-        Question::List => answer_list(rt, console, section, given),
-        Question::Lookup => answer_lookups(rt, console, true, section),
-        Question::Ask => answer_lookups(rt, console, false, section),
-        Question::Why => answer_why(rt, console, section),
-        Question::Walks(sought) => answer_walk(rt, console, sought, section, given, left),
+        Question::List => answer_list(rt, console, section),
+        Question::Lookup => answer_lookups(rt, console, section),
+        Question::Ask => answer_asks(rt, console, section),
+        Question::Why => {
+            let _ = answer_why(rt, console, section);
+        }
+        Question::Walks(sought) => answer_walk(rt, console, sought, section, left),
     }
 }

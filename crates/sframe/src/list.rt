@@ -2,109 +2,145 @@
 // can cut them.
 use crate::arguments::count_given;
 use crate::console::Console;
-use crate::line::{blank_line, put, put_number, put_offset, put_start, say_line};
-use crate::say::{complain, note, note_number};
-use crate::status::tell_refused;
+use crate::say::{complain, note, say};
+use crate::status::{argument_count, tell_refused};
+use crate::text::Named;
 use accept::section_check::check;
 use accept::verdict::Verdict;
-use digits::Parsed;
 use listing::function::Kind;
 use listing::lines::{Cursor, FunctionLine, Line, NextLine, cursor_over, next_line};
+use numbers::offset::{Shift, shift_of};
 use section::header::{Layout, layout_at};
-use section::row::{Base, Place, Row};
+use section::row::{Place, Row};
 use section::shape::Abi;
+use std::fmt;
 use std::rt::Env;
 
-// The size of a repeated block. The answer is where the line ends.
-fn put_kind(line: &mut [u8], kind: Kind) -> usize {
-    match kind {
-        Kind::Plain => 51,
-        Kind::Repeated(size) => {
-            put(line, 53, b"block");
-            put_number(line, 62, size as u64);
-            62
+// A start, by its sign, 0x, and 8 hexadecimal digits.
+#[derive(Clone, Copy)]
+struct Start(Shift);
+
+impl fmt::Display for Start {
+    fn fmt<W: fmt::Write>(&self, f: &mut fmt::Formatter<W>) -> fmt::Result {
+        match self.0 {
+            Shift::Up(by) => write!(f, "+0x{by:08x}"),
+            Shift::Down(by) => write!(f, "-0x{by:08x}"),
         }
     }
 }
 
-fn put_function(line: &mut [u8], function: FunctionLine) -> usize {
-    let start = function.start;
-    let kind = function.kind;
-    put(line, 0, b"function");
-    put_number(line, 15, function.index);
-    put(line, 17, b"start");
-    put_start(line, start);
-    put(line, 36, b"size");
-    put_number(line, 51, function.size as u64);
-    put_kind(line, kind)
-}
+// The size of a repeated block, where there is one.
+#[derive(Clone, Copy)]
+struct Block(Kind);
 
-fn put_base(line: &mut [u8], base: Base) {
-    match base {
-        Base::Fp => put(line, 18, b"FP"),
-        Base::Sp => put(line, 18, b"SP"),
-    }
-}
-
-// The offset of a saved register, behind its name; nothing where it is in its register. The answer is where the line ends, which it
-// does at `end` before.
-fn put_place(line: &mut [u8], end: usize, column: u8, name: &[u8], place: Place) -> usize {
-    match place {
-        Place::Register => end,
-        Place::AtOffset(offset) => {
-            let first = column as usize;
-            put(line, first, name);
-            put_offset(line, first + 14, offset);
-            first + 14
+impl fmt::Display for Block {
+    fn fmt<W: fmt::Write>(&self, f: &mut fmt::Formatter<W>) -> fmt::Result {
+        match self.0 {
+            Kind::Plain => Ok(()),
+            Kind::Repeated(size) => write!(f, "  block{size:>4}"),
         }
     }
 }
 
-// RA, FP, and whether RA is signed: AMD64 has only FP here.
-fn put_saved(line: &mut [u8], row: Row) -> usize {
-    let ra = row.ra;
-    let fp = row.fp;
-    let end = put_place(line, 37, 39, b"RA", ra);
-    let end = put_place(line, end, 55, b"FP", fp);
-    if row.signed {
-        put(line, 71, b"signed");
-        return 77;
-    }
-    end
+fn show_function(console: &Console, function: FunctionLine) {
+    let index = function.index;
+    let start = Start(shift_of(function.start));
+    let size = function.size;
+    let block = Block(function.kind);
+    say(
+        console,
+        format_args!("function{index:>7}  start {start}  size{size:>11}{block}\n"),
+    );
 }
 
-fn put_row(line: &mut [u8], abi: Abi, row: Row) -> usize {
-    let base = row.base;
-    let cfa = row.cfa;
-    let fp = row.fp;
-    put(line, 2, b"row");
-    put_number(line, 16, row.start as u64);
-    put_base(line, base);
-    put(line, 22, b"CFA");
-    put_offset(line, 37, cfa);
+// The offset of a saved register behind its name, in 16 columns, which are blank where it is in its register.
+#[derive(Clone, Copy)]
+struct Column {
+    name: &'static str,
+    place: Place,
+}
+
+impl Column {
+    fn is_blank(self) -> bool {
+        matches!(self.place, Place::Register)
+    }
+}
+
+impl fmt::Display for Column {
+    fn fmt<W: fmt::Write>(&self, f: &mut fmt::Formatter<W>) -> fmt::Result {
+        let Column { name, place } = *self;
+        match place {
+            Place::Register => f.write_str("                "),
+            Place::AtOffset(offset) => write!(f, "  {name}{:>+12}", offset.by),
+        }
+    }
+}
+
+// RA, FP, and whether RA is signed. No blanks stand at the line's end.
+#[derive(Clone, Copy)]
+struct Columns {
+    ra: Column,
+    fp: Column,
+    signed: bool,
+}
+
+impl fmt::Display for Columns {
+    fn fmt<W: fmt::Write>(&self, f: &mut fmt::Formatter<W>) -> fmt::Result {
+        let Columns { ra, fp, signed } = *self;
+        if signed {
+            write!(f, "{ra}{fp}  signed")
+        } else if !fp.is_blank() {
+            write!(f, "{ra}{fp}")
+        } else if !ra.is_blank() {
+            write!(f, "{ra}")
+        } else {
+            Ok(())
+        }
+    }
+}
+
+// AMD64 has only FP here, in the columns of RA.
+fn columns_of(abi: Abi, row: Row) -> Columns {
+    let fp = Column {
+        name: "FP",
+        place: row.fp,
+    };
     match abi {
-        Abi::Aarch64Big => put_saved(line, row),
-        Abi::Aarch64Little => put_saved(line, row),
-        Abi::Amd64 => put_place(line, 37, 39, b"FP", fp),
+        Abi::Aarch64Big | Abi::Aarch64Little => Columns {
+            ra: Column {
+                name: "RA",
+                place: row.ra,
+            },
+            fp,
+            signed: row.signed,
+        },
+        Abi::Amd64 => Columns {
+            ra: fp,
+            fp: Column {
+                name: "FP",
+                place: Place::Register,
+            },
+            signed: false,
+        },
     }
 }
 
-fn show_in(console: &Console, room: &mut [u8], abi: Abi, line: Line) {
-    match line {
-        Line::OfFunction(function) => {
-            let end = put_function(room, function);
-            say_line(console, room, 0, end);
-        }
-        Line::OfRow(row) => {
-            let end = put_row(room, abi, row);
-            say_line(console, room, 0, end);
-        }
-    }
+fn show_row(console: &Console, abi: Abi, row: Row) {
+    let start = row.start;
+    let base = Named(row.base);
+    let cfa = row.cfa.by;
+    let columns = columns_of(abi, row);
+    say(
+        console,
+        format_args!("  row{start:>11}  {base}  CFA{cfa:>+12}{columns}\n"),
+    );
 }
 
 fn show_line(console: &Console, abi: Abi, line: Line) {
-    let mut room = blank_line();
-    show_in(console, &mut room, abi, line);
+    match line {
+        Line::OfFunction(function) => show_function(console, function),
+        Line::OfRow(row) => show_row(console, abi, row),
+    }
 }
 
 fn show_lines(console: &Console, section: &[u8], abi: Abi, from: Cursor) {
@@ -124,32 +160,20 @@ fn show_lines(console: &Console, section: &[u8], abi: Abi, from: Cursor) {
     }
 }
 
-// The number and the index, with a blank between them.
-fn show_two_in(console: &Console, room: &mut [u8], number: u64, index: u64) {
-    let second = put_number(room, 64, index);
-    if second < 1 {
-        return;
-    }
-    let first = put_number(room, second - 1, number);
-    say_line(console, room, first, 64);
-}
-
 fn show_refusal(console: &Console, number: u64, index: u64) {
-    let mut room = blank_line();
     tell_refused(console);
-    show_two_in(console, &mut room, number, index);
+    say(console, format_args!("{number} {index}\n"));
     note(
         console,
-        b"sframe: the section is refused; 'sframe check' says why\n",
+        "sframe: the section is refused; 'sframe check' says why\n",
     );
 }
 
 fn complain_of_index(console: &Console, index: u64, functions: u64) {
-    note(console, b"sframe: there is no function ");
-    note_number(console, index);
-    note(console, b": the section has ");
-    note_number(console, functions);
-    complain(console, b"\n");
+    complain(
+        console,
+        format_args!("sframe: there is no function {index}: the section has {functions}\n"),
+    );
 }
 
 fn show_one(console: &Console, section: &[u8], layout: Layout, index: u64) {
@@ -173,11 +197,8 @@ fn list_all(console: &Console, section: &[u8]) {
     }
 }
 
-// One function, by argument 3.
-fn list_one(rt: &impl Env, console: &Console, section: &[u8]) {
-    let Parsed::Number(index) = count_given(rt, console, 3, b"INDEX") else {
-        return;
-    };
+// One function.
+fn list_one(console: &Console, section: &[u8], index: u64) {
     match check(section) {
         Verdict::Refused {
             number,
@@ -187,11 +208,11 @@ fn list_one(rt: &impl Env, console: &Console, section: &[u8]) {
     }
 }
 
-// With `given` arguments behind the command: FILE, or FILE and INDEX.
-pub fn answer_list(rt: &impl Env, console: &Console, section: &[u8], given: usize) {
-    if given < 2 {
+// FILE alone, or FILE and INDEX.
+pub fn answer_list(rt: &impl Env, console: &Console, section: &[u8]) {
+    if argument_count(rt) < 4 {
         list_all(console, section);
-        return;
+    } else if let Some(index) = count_given(rt, console, 3, "INDEX") {
+        list_one(console, section, index);
     }
-    list_one(rt, console, section);
 }

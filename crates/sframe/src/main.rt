@@ -8,13 +8,11 @@ mod arguments;
 mod console;
 mod help;
 mod hints;
-mod line;
 mod list;
 mod refusals;
 mod rooms;
 mod say;
 mod sections;
-mod sentence;
 mod show;
 mod show_step_why;
 mod show_walks;
@@ -30,105 +28,62 @@ use crate::console::Console;
 use crate::help::{Command, command_of, complain_of_word, show_help, show_help_of};
 use crate::say::{complain, is_output_open};
 use crate::sections::ask;
-use crate::status::{ARGUMENT, argument_count, put_argument, tell_end};
+use crate::status::{ARGUMENT, argument, argument_count, tell_end};
 use crate::version::show_version;
 use crate::walks::Sought;
+use std::ops::RangeInclusive;
 use std::rt::{Env, Files};
 
 // Whether as many arguments are given as are taken.
-fn are_all(console: &Console, given: usize, taken: usize, complaint: &[u8]) -> bool {
-    if given == taken {
-        return true;
+fn are_taken(
+    console: &Console,
+    given: usize,
+    taken: RangeInclusive<usize>,
+    complaint: &str,
+) -> bool {
+    let fits = taken.contains(&given);
+    if !fits {
+        complain(console, complaint);
     }
-    complain(console, complaint);
-    false
+    fits
 }
 
-// As are_all, where the last argument may be left out.
-fn are_enough(console: &Console, given: usize, taken: usize, complaint: &[u8]) -> bool {
-    if given < taken {
-        return are_all(console, given + 1, taken, complaint);
-    }
-    are_all(console, given, taken, complaint)
-}
-
-// As are_all, where there may be more of the last argument.
-fn are_some(console: &Console, given: usize, least: usize, complaint: &[u8]) -> bool {
-    if least < given {
-        return true;
-    }
-    are_all(console, given, least, complaint)
-}
-
-fn ask_check(rt: &(impl Env + Files + Input), console: &Console, given: usize) {
-    if are_all(console, given, 1, b"sframe: 'check' takes FILE\n") {
-        ask(rt, console, Question::Check, given);
-    }
-}
-
-fn ask_list(rt: &(impl Env + Files + Input), console: &Console, given: usize) {
-    if are_enough(console, given, 2, b"sframe: 'list' takes FILE [INDEX]\n") {
-        ask(rt, console, Question::List, given);
+// How many arguments a question takes, and what is said of any other number. Why a lookup comes to its answer takes as many as the
+// lookup of one PC; any other number is taken for that of a caller.
+fn taken_by(question: Question) -> (RangeInclusive<usize>, &'static str) {
+    match question {
+        Question::Check => (1..=1, "sframe: 'check' takes FILE\n"),
+        Question::List => (1..=2, "sframe: 'list' takes FILE [INDEX]\n"),
+        Question::Lookup => (
+            3..=usize::MAX,
+            "sframe: 'lookup' takes FILE ADDRESS PC...\n",
+        ),
+        Question::Ask => (3..=usize::MAX, "sframe: 'ask' takes FILE ADDRESS PC...\n"),
+        Question::Why => (3..=3, WHY_TAKES),
+        Question::Walks(Sought::Why) => (10..=10, WHY_TAKES),
+        Question::Walks(Sought::Caller) => (9..=10, CALLER_TAKES),
+        Question::Walks(Sought::Trace) => (9..=10, TRACE_TAKES),
     }
 }
 
-fn ask_lookup(rt: &(impl Env + Files + Input), console: &Console, given: usize) {
-    if are_some(
-        console,
-        given,
-        3,
-        b"sframe: 'lookup' takes FILE ADDRESS PC...\n",
-    ) {
-        ask(rt, console, Question::Lookup, given);
-    }
-}
+const WHY_TAKES: &str =
+    "sframe: 'why' takes FILE ADDRESS PC, or FILE ADDRESS STACK STACK_ADDRESS PC SP FP LR FIRST MASK\n";
 
-fn ask_ask(rt: &(impl Env + Files + Input), console: &Console, given: usize) {
-    if are_some(
-        console,
-        given,
-        3,
-        b"sframe: 'ask' takes FILE ADDRESS PC...\n",
-    ) {
-        ask(rt, console, Question::Ask, given);
-    }
-}
+const CALLER_TAKES: &str =
+    "sframe: 'caller' takes FILE ADDRESS STACK STACK_ADDRESS PC SP FP LR FIRST [MASK]\n";
 
-// Why a lookup comes to its answer takes as many arguments as the lookup of one PC; any other number is taken for that of a caller.
-fn ask_why(rt: &(impl Env + Files + Input), console: &Console, given: usize) {
-    if given == 3 {
-        ask(rt, console, Question::Why, given);
-        return;
-    }
-    if are_all(
-        console,
-        given,
-        10,
-        b"sframe: 'why' takes FILE ADDRESS PC, or FILE ADDRESS STACK STACK_ADDRESS PC SP FP LR FIRST MASK\n",
-    ) {
-        ask(rt, console, Question::Walks(Sought::Why), given);
-    }
-}
+const TRACE_TAKES: &str =
+    "sframe: 'trace' takes FILE ADDRESS STACK STACK_ADDRESS PC SP FP LR LIMIT [MASK]\n";
 
-fn ask_caller(rt: &(impl Env + Files + Input), console: &Console, given: usize) {
-    if are_enough(
-        console,
-        given,
-        10,
-        b"sframe: 'caller' takes FILE ADDRESS STACK STACK_ADDRESS PC SP FP LR FIRST [MASK]\n",
-    ) {
-        ask(rt, console, Question::Walks(Sought::Caller), given);
-    }
-}
-
-fn ask_trace(rt: &(impl Env + Files + Input), console: &Console, given: usize) {
-    if are_enough(
-        console,
-        given,
-        10,
-        b"sframe: 'trace' takes FILE ADDRESS STACK STACK_ADDRESS PC SP FP LR LIMIT [MASK]\n",
-    ) {
-        ask(rt, console, Question::Walks(Sought::Trace), given);
+fn ask_if_taken<R: Env + Files + Input>(
+    rt: &R,
+    console: &Console,
+    given: usize,
+    question: Question,
+) {
+    let (taken, complaint) = taken_by(question);
+    if are_taken(console, given, taken, complaint) {
+        ask(rt, console, question);
     }
 }
 
@@ -137,65 +92,61 @@ fn answer_help(rt: &impl Env, console: &Console, given: usize) {
         show_help(console);
         return;
     }
-    if are_all(console, given, 1, b"sframe: 'help' takes [COMMAND]\n") {
-        let mut word = [0u8; ARGUMENT];
-        let n = put_argument(rt, 2, &mut word);
-        show_help_of(console, &word[..n]);
+    if are_taken(console, given, 1..=1, "sframe: 'help' takes [COMMAND]\n") {
+        let mut room = [0u8; ARGUMENT];
+        show_help_of(console, argument(rt, 2, &mut room));
     }
 }
 
 fn answer_version(console: &Console, given: usize) {
-    if are_all(console, given, 0, b"sframe: 'version' takes no arguments\n") {
+    if are_taken(
+        console,
+        given,
+        0..=0,
+        "sframe: 'version' takes no arguments\n",
+    ) {
         show_version(console);
     }
 }
 
-fn run(rt: &(impl Env + Files + Input), console: &Console, word: &[u8], given: usize) {
-    match command_of(word) {
-        Command::Check => ask_check(rt, console, given),
-        Command::List => ask_list(rt, console, given),
-        Command::Lookup => ask_lookup(rt, console, given),
-        Command::Ask => ask_ask(rt, console, given),
-        Command::Why => ask_why(rt, console, given),
-        Command::Caller => ask_caller(rt, console, given),
-        Command::Trace => ask_trace(rt, console, given),
-        Command::Help => answer_help(rt, console, given),
-        Command::Version => answer_version(console, given),
-        Command::Unknown => complain_of_word(console, word),
-    }
+fn run<R: Env + Files + Input>(rt: &R, console: &Console, word: &[u8], given: usize) {
+    let Some(command) = command_of(word) else {
+        complain_of_word(console, word);
+        return;
+    };
+    let question = match command {
+        Command::Help => return answer_help(rt, console, given),
+        Command::Version => return answer_version(console, given),
+        Command::Check => Question::Check,
+        Command::List => Question::List,
+        Command::Lookup => Question::Lookup,
+        Command::Ask => Question::Ask,
+        Command::Why if given == 3 => Question::Why,
+        Command::Why => Question::Walks(Sought::Why),
+        Command::Caller => Question::Walks(Sought::Caller),
+        Command::Trace => Question::Walks(Sought::Trace),
+    };
+    ask_if_taken(rt, console, given, question);
 }
 
 // Whether the one argument of a command asks for help.
 fn is_help_asked(rt: &impl Env, given: usize) -> bool {
-    if given != 1 {
-        return false;
-    }
-    if is_argument(rt, 2, b"--help") {
-        return true;
-    }
-    is_argument(rt, 2, b"-h")
-}
-
-fn run_or_help(rt: &(impl Env + Files + Input), console: &Console, word: &[u8], given: usize) {
-    if is_help_asked(rt, given) {
-        show_help_of(console, word);
-        return;
-    }
-    run(rt, console, word, given);
+    given == 1 && (is_argument(rt, 2, b"--help") || is_argument(rt, 2, b"-h"))
 }
 
 // With the program's name and at least one argument.
-fn run_first(rt: &(impl Env + Files + Input), console: &Console, count: usize) {
+fn run_first<R: Env + Files + Input>(rt: &R, console: &Console, count: usize) {
     if count < 2 {
-        complain(console, b"sframe: no command; 'sframe help' lists them\n");
+        complain(console, "sframe: no command; 'sframe help' lists them\n");
         return;
     }
-    let mut word = [0u8; ARGUMENT];
-    let Ok(n) = rt.arg(1, &mut word) else {
-        complain_of_word(console, &word);
-        return;
-    };
-    run_or_help(rt, console, &word[..n], count - 2);
+    let given = count - 2;
+    let mut room = [0u8; ARGUMENT];
+    match rt.arg(1, &mut room) {
+        Err(_) => complain_of_word(console, &room),
+        Ok(n) if is_help_asked(rt, given) => show_help_of(console, &room[..n]),
+        Ok(n) => run(rt, console, &room[..n], given),
+    }
 }
 
 fn main(rt: HostRuntime) {
@@ -203,7 +154,7 @@ fn main(rt: HostRuntime) {
     if is_output_open(&console) {
         run_first(&rt, &console, argument_count(&rt));
     } else {
-        complain(&console, b"sframe: standard output is closed\n");
+        complain(&console, "sframe: standard output is closed\n");
     }
     tell_end(&rt, &console);
 }

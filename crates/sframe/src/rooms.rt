@@ -1,10 +1,10 @@
 // How much of a file can be read. The room for it lies on this program's stack, which the system limits; so there are rooms of four
 // sizes, and what the limit leaves tells which of them can be had.
-ghost use Rattle.std.specs.Prelude.{◌≡◌, ◌≤◌, length, take};
+ghost use Rattle.std.specs.Prelude.{◌<◌, ◌^◌};
 
-use crate::arguments::open_read;
-use crate::text::{Found, behind};
-use digits::{Parsed, parse_decimal};
+use crate::arguments::{Opened, open_read};
+use digits::parse_decimal;
+use std::io;
 use std::io::Read;
 use std::rt::Files;
 
@@ -27,176 +27,144 @@ const LARGE: usize = 6_291_456;
 // As many as a section may have, by rule 2.
 pub const LARGEST: usize = 16_777_216;
 
-pub fn smallest_room() -> [u8; SMALLEST + 1] {
-    [0u8; SMALLEST + 1]
+const SMALLEST_ROOM: usize = SMALLEST + 1;
+
+const SMALL_ROOM: usize = SMALL + 1;
+
+const LARGE_ROOM: usize = LARGE + 1;
+
+const LARGEST_ROOM: usize = LARGEST + 1;
+
+#[derive(Clone, Copy, PartialEq, Eq, PartialOrd, Ord)]
+pub enum Room {
+    Smallest,
+    Small,
+    Large,
+    Largest,
 }
 
-pub fn small_room() -> [u8; SMALL + 1] {
-    [0u8; SMALL + 1]
-}
+const ROOMS: [Room; 4] = [Room::Smallest, Room::Small, Room::Large, Room::Largest];
 
-pub fn large_room() -> [u8; LARGE + 1] {
-    [0u8; LARGE + 1]
-}
-
-pub fn largest_room() -> [u8; LARGEST + 1] {
-    [0u8; LARGEST + 1]
-}
-
-// How many bytes of a file a room holds.
-pub fn bytes_of(room: usize) -> u64 {
-    match room {
-        0 => SMALLEST as u64,
-        1 => SMALL as u64,
-        2 => LARGE as u64,
-        _ => LARGEST as u64,
+impl Room {
+    // How many bytes of a file it holds.
+    pub fn bytes(self) -> u64 {
+        match self {
+            Room::Smallest => SMALLEST as u64,
+            Room::Small => SMALL as u64,
+            Room::Large => LARGE as u64,
+            Room::Largest => LARGEST as u64,
+        }
     }
 }
 
-// The largest room that can be had, or that there is none.
+// The largest room that can be had by what is left of the stack.
+pub fn largest_within(left: u64) -> Option<Room> {
+    ROOMS.into_iter().rev().find(|room| room.bytes() < left)
+}
+
+// A file has more bytes than the room holds.
 #[derive(Clone, Copy)]
-pub enum Largest {
-    Room(usize),
-    None,
-}
+pub struct Long;
 
-// By what is left of the stack.
-pub fn largest_within(left: u64) -> Largest {
-    if bytes_of(3) < left {
-        return Largest::Room(3);
-    }
-    if bytes_of(2) < left {
-        return Largest::Room(2);
-    }
-    if bytes_of(1) < left {
-        return Largest::Room(1);
-    }
-    if bytes_of(0) < left {
-        return Largest::Room(0);
-    }
-    Largest::None
-}
-
-// What is left of so many bytes when so many are taken.
-pub fn without(bytes: u64, taken: u64) -> u64 {
-    if bytes < taken {
-        return 0;
-    }
-    bytes - taken
-}
-
-// The first place where a text is found.
-fn find(text: &[u8], sought: &[u8]) -> Found {
-    for at in 0..text.len() {
-        let found = behind(text, at, sought);
-        if let Found::Behind(end) = found {
-            return found;
-        }
-    }
-    Found::Nowhere
-}
-
-// Whether a byte is a digit, or else a blank.
-fn is_either(digit: bool, byte: u8) -> bool {
-    match byte {
-        b'0'..=b'9' => digit,
-        b' ' | b'\t' => !digit,
-        _ => false,
-    }
-}
-
-// Where the digits end that begin at a place, or else the blanks.
-fn past(digit: bool, text: &[u8], from: usize) -> usize {
-    for at in from..text.len() {
-        if !is_either(digit, text[at]) {
-            return at;
-        }
-    }
-    from.max(text.len())
-}
-
-// The decimal number behind a name in a text of the system's.
-fn number_behind(text: &[u8], name: &[u8]) -> Parsed {
-    let Found::Behind(end) = find(text, name) else {
-        return Parsed::Wrong;
-    };
-    let first = past(false, text, end);
-    let last = past(true, text, first);
-    if last < first {
-        return Parsed::Wrong;
-    }
-    if text.len() < last {
-        return Parsed::Wrong;
-    }
-    parse_decimal(&text[first..last])
-}
-
-// Reads until the room is full, the file ends or a read fails, and answers how many bytes it put at the start of the room.
-fn read_full(file: &mut impl Read, room: &mut [u8]) -> usize
-    ensures within { result ≤ length room.new }
-    ensures prefix { length (take result room.new) ≡ result }
+// Each room has a frame of its own: a compiler that put them all into one would ask for the sum of them, whatever the file is.
+#[inline(never)]
+fn in_room<const BYTES: usize, F, A>(opened: &mut Opened<F>, attempt: &A) -> Result<(), Long>
+where
+    A: Fn(&mut Opened<F>, &mut [u8]) -> Result<(), Long>,
+    requires sized { BYTES < 2 ^ 63 }
+    requires callable { A.IsAlwaysCallable attempt.now }
 {
-    let mut done = 0;
-    for _ in 0..room.len() {
-        if room.len() <= done {
-            return done;
-        }
-        match file.read(&mut room[done..]) {
-            Err(_) | Ok(0) => return done,
-            Ok(more) => done = done + more,
+    let mut room = [0u8; BYTES];
+    attempt(opened, &mut room)
+}
+
+// Tries the rooms up to this one, the smallest first, until one holds the file; what can be read only once goes into this one.
+pub fn in_rooms<F, A>(largest: Room, opened: &mut Opened<F>, attempt: &A) -> Result<(), Long>
+where
+    A: Fn(&mut Opened<F>, &mut [u8]) -> Result<(), Long>,
+    requires { A.IsAlwaysCallable attempt.now }
+{
+    for room in ROOMS {
+        if room <= largest && (room == largest || !opened.once) {
+            let held = match room {
+                Room::Smallest => in_room::<SMALLEST_ROOM, F, A>(opened, attempt),
+                Room::Small => in_room::<SMALL_ROOM, F, A>(opened, attempt),
+                Room::Large => in_room::<LARGE_ROOM, F, A>(opened, attempt),
+                Room::Largest => in_room::<LARGEST_ROOM, F, A>(opened, attempt),
+            };
+            if held.is_ok() {
+                return held;
+            }
         }
     }
-    done
+    Err(Long)
+}
+
+// What stands in a text behind the first place where a name does.
+fn behind<'a>(text: &'a [u8], name: &[u8]) -> Option<&'a [u8]> {
+    for at in 0..text.len() {
+        if let Some(rest) = text[at..].strip_prefix(name) {
+            return Some(rest);
+        }
+    }
+    None
+}
+
+// The decimal number behind a name in a text of the system's, with blanks between them.
+fn number_behind(text: &[u8], name: &[u8]) -> Option<u64> {
+    let blanks = behind(text, name)?;
+    let first = blanks
+        .iter()
+        .position(|byte| !matches!(byte, b' ' | b'\t'))?;
+    let number = blanks.get(first..)?;
+    let end = number.iter().position(|byte| !byte.is_ascii_digit());
+    parse_decimal(number.get(..end.unwrap_or(number.len()))?)
+}
+
+// Reads a file from where it stands to its end, as far as there is room. A read that fails ends it.
+pub fn read_into<'a>(file: &mut impl Read, room: &'a mut [u8]) -> (&'a [u8], io::Result<()>) {
+    let most = room.len();
+    let mut rest: &mut [u8] = room;
+    let end = io::copy(&mut file.take(most as u64), &mut rest);
+    let filled = most.saturating_sub(rest.len());
+    (room.get(..filled).unwrap_or(&[]), end.map(|_| ()))
 }
 
 // The first bytes of a file of the system's; none where it cannot be read.
-fn read_first(rt: &impl Files, path: &[u8], room: &mut [u8]) -> usize
-    ensures within { result ≤ length room.new }
-    ensures prefix { length (take result room.new) ≡ result }
-{
+fn read_first<'a>(rt: &impl Files, path: &[u8], room: &'a mut [u8]) -> &'a [u8] {
     match open_read(rt, path) {
-        Err(_) => 0,
-        Ok(mut file) => read_full(&mut file, room),
+        Err(_) => &[],
+        Ok(mut file) => read_into(&mut file, room).0,
     }
 }
 
 fn limit_in(text: &[u8]) -> u64 {
-    if let Parsed::Number(limit) = number_behind(text, b"Max stack size") {
-        return limit;
-    }
-    match find(text, b"Max stack size            unlimited") {
-        Found::Behind(end) => u64::MAX,
-        Found::Nowhere => USUAL_LIMIT,
+    match number_behind(text, b"Max stack size") {
+        Some(limit) => limit,
+        None if behind(text, b"Max stack size            unlimited").is_some() => u64::MAX,
+        None => USUAL_LIMIT,
     }
 }
 
 // How large the stack may become.
 pub fn stack_limit(rt: &impl Files) -> u64 {
     let mut room = [0u8; FIRST];
-    let n = read_first(rt, b"/proc/self/limits", &mut room);
-    limit_in(&room[..n])
+    limit_in(read_first(rt, b"/proc/self/limits", &mut room))
 }
 
 fn use_in(text: &[u8]) -> u64 {
-    match number_behind(text, b"VmStk:") {
-        Parsed::Number(kilobytes) => {
-            if u64::MAX / 1_024 < kilobytes {
-                return u64::MAX;
-            }
-            1_024 * kilobytes
-        }
-        Parsed::Wrong => USUAL_USE,
-    }
+    number_behind(text, b"VmStk:").map_or(USUAL_USE, |kilobytes| kilobytes.saturating_mul(1_024))
 }
 
 // How large it is: the arguments and the environment lie there too.
 fn stack_use(rt: &impl Files) -> u64 {
     let mut room = [0u8; FIRST];
-    let n = read_first(rt, b"/proc/self/status", &mut room);
-    use_in(&room[..n])
+    use_in(read_first(rt, b"/proc/self/status", &mut room))
 }
 
 // How many bytes of the stack are left for the rooms.
 pub fn left_for_rooms(rt: &impl Files) -> u64 {
-    without(without(stack_limit(rt), stack_use(rt)), OWN)
+    stack_limit(rt)
+        .saturating_sub(stack_use(rt))
+        .saturating_sub(OWN)
 }

@@ -1,15 +1,13 @@
 // Text and numbers on standard output, and on standard error what is wrong with a command line, or may help.
 use crate::console::Console;
 use crate::status::tell_wrong;
-use std::io::Write;
+use reading::Worded;
+use std::io::Print;
 use std::os::fd::AsFd;
-use std::{io, str};
+use std::{fmt, io};
 
 // The system's number for a descriptor that is closed, or not open for what is asked of it.
 const BAD_DESCRIPTOR: i32 = 9;
-
-// As much as an error says of itself.
-const MESSAGE: usize = 256;
 
 // Whether standard output is open, which it is not behind a write that failed. One that is open can be had a second time.
 pub fn is_output_open(console: &Console) -> bool {
@@ -18,24 +16,18 @@ pub fn is_output_open(console: &Console) -> bool {
     }
     match console.out.as_fd().try_clone_to_owned() {
         Ok(_second) => true,
-        Err(error) => !is_bad_descriptor(error),
+        Err(error) => !is_bad_descriptor(&error),
     }
 }
 
-fn is_bad_descriptor(error: io::Error) -> bool {
-    match error.raw_os_error() {
-        Some(code) => code == BAD_DESCRIPTOR,
-        None => false,
-    }
+fn is_bad_descriptor(error: &io::Error) -> bool {
+    error.raw_os_error() == Some(BAD_DESCRIPTOR)
 }
 
 // One that is open, but not for writing. Where it is closed, that was told before.
 fn close_unwritable(console: &Console) {
     if is_output_open(console) {
-        note(
-            console,
-            b"sframe: standard output is not open for writing\n",
-        );
+        note(console, "sframe: standard output is not open for writing\n");
         console.give_up();
         tell_wrong(console);
     }
@@ -47,95 +39,50 @@ fn keep(console: &Console, written: io::Result<()>) {
     let Err(error) = written else {
         return;
     };
-    if is_bad_descriptor(error) {
+    if is_bad_descriptor(&error) {
         close_unwritable(console);
         return;
     }
     console.give_up();
-    complain_of_error(console, b"sframe: standard output", error);
+    complain_of_error(console, "sframe: standard output", error);
 }
 
-pub fn say(console: &Console, text: &[u8]) {
+pub fn say<T: fmt::Display + Drop>(console: &Console, text: T) {
     if !console.is_given_up() {
-        keep(console, console.out.write_all(text));
-    }
-}
-
-pub fn say_number(console: &Console, n: u64) {
-    if !console.is_given_up() {
-        keep(console, print!(console.out; "{n}"));
-    }
-}
-
-// A word in 16 hexadecimal digits.
-pub fn say_word(console: &Console, word: u64) {
-    if !console.is_given_up() {
-        keep(console, print!(console.out; "{word:016x}"));
-    }
-}
-
-// In hexadecimal, with no leading zeros.
-pub fn say_hex(console: &Console, n: u64) {
-    if !console.is_given_up() {
-        keep(console, print!(console.out; "{n:x}"));
+        keep(console, console.out.print(text));
     }
 }
 
 // A part of a message on standard error. Where that cannot be written, there is nowhere to say so.
-pub fn note(console: &Console, text: &[u8]) {
-    let _ = console.err.write_all(text);
-}
-
-pub fn note_number(console: &Console, n: u64) {
-    let _ = print!(console.err; "{n}");
-}
-
-// A byte of an argument: one that a terminal might obey is written as its number.
-fn note_byte(console: &Console, byte: u8) {
-    match byte {
-        b'\\' => note(console, b"\\\\"),
-        b' '..=b'~' => note(console, &[byte]),
-        _ => {
-            let _ = print!(console.err; "\\x{byte:02x}");
-        }
-    }
-}
-
-// An argument as it was given.
-pub fn note_argument(console: &Console, text: &[u8]) {
-    for byte in text {
-        note_byte(console, *byte);
-    }
-}
-
-// What the system says of an error, without the number that std puts behind it.
-fn note_error(console: &Console, error: io::Error) {
-    let mut room = [0u8; MESSAGE];
-    let mut rest: &mut [u8] = &mut room;
-    let _ = write!(rest, "{error}");
-    let end = MESSAGE.saturating_sub(rest.len());
-    let Some(said) = room.get(..end) else {
-        return;
-    };
-    let Ok(said) = str::from_utf8(said) else {
-        return;
-    };
-    match said.split_once(" (os error ") {
-        Some((message, _)) => note(console, message.as_bytes()),
-        None => note(console, said.as_bytes()),
-    }
-}
-
-// What failed, as the caller names it, and the error.
-pub fn complain_of_error(console: &Console, what: &[u8], error: io::Error) {
-    note(console, what);
-    note(console, b": ");
-    note_error(console, error);
-    complain(console, b"\n");
+pub fn note<T: fmt::Display + Drop>(console: &Console, text: T) {
+    let _ = console.err.print(text);
 }
 
 // The last part of a message about what is wrong, or all of it.
-pub fn complain(console: &Console, text: &[u8]) {
+pub fn complain<T: fmt::Display + Drop>(console: &Console, text: T) {
     note(console, text);
     tell_wrong(console);
+}
+
+// What failed, as the caller names it, and what the system says of the error.
+pub fn complain_of_error<T: fmt::Display + Drop>(console: &Console, what: T, error: io::Error) {
+    let worded = Worded(error);
+    complain(console, format_args!("{what}: {worded}\n"));
+}
+
+// An argument as it was given. A byte that a terminal might obey is written as its number.
+#[derive(Clone, Copy)]
+pub struct Given<'a>(pub &'a [u8]);
+
+impl fmt::Display for Given<'_> {
+    fn fmt<W: fmt::Write>(&self, f: &mut fmt::Formatter<W>) -> fmt::Result {
+        for byte in self.0 {
+            match *byte {
+                b'\\' => f.write_str("\\\\")?,
+                b' '..=b'~' => f.write_char(*byte as char)?,
+                _ => write!(f, "\\x{byte:02x}")?,
+            }
+        }
+        Ok(())
+    }
 }

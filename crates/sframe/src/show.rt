@@ -2,48 +2,39 @@
 use crate::console::Console;
 use crate::hints::hint_of_unlinked;
 use crate::refusals::{
-    say_bounded, show_dispute, show_not_landed, show_refused, show_refused_at, show_unsound,
+    Bounded, show_dispute, show_not_landed, show_refused, show_refused_at, show_unsound,
 };
-use crate::say::{say, say_number};
-use crate::sentence::{say_with_number, say_with_word};
+use crate::say::say;
+use crate::text::{Cfa, Count, Saved};
 use accept::section_check::check;
 use accept::verdict::Verdict;
 use ask::answer::AskAnswer;
 use lookup::answer::{Answer, Outcome};
-use numbers::offset::{Offset, Shift, shift_of};
 use section::header::{Layout, layout_at};
-use section::row::{Base, Place, Row};
+use section::row::{Place, Row};
 use section::shape::Abi;
 
-fn show_abi(console: &Console, abi: Abi) {
+fn name_of(abi: Abi) -> &'static str {
     match abi {
-        Abi::Aarch64Big => say(console, b"AArch64 big-endian"),
-        Abi::Aarch64Little => say(console, b"AArch64 little-endian"),
-        Abi::Amd64 => say(console, b"AMD64"),
-    }
-}
-
-// A count of things, whose name takes an s where there is not one of them.
-fn show_count(console: &Console, n: u64, thing: &[u8]) {
-    say(console, b", ");
-    say_number(console, n);
-    say(console, thing);
-    if n != 1 {
-        say(console, b"s");
+        Abi::Aarch64Big => "AArch64 big-endian",
+        Abi::Aarch64Little => "AArch64 little-endian",
+        Abi::Amd64 => "AMD64",
     }
 }
 
 fn show_accepted(console: &Console, layout: Layout) {
-    let abi = layout.abi;
-    say(console, b"accepted: ");
-    show_abi(console, abi);
-    show_count(console, layout.functions as u64, b" function");
-    show_count(console, layout.rows as u64, b" row");
-    if layout.sorted {
-        say(console, b", sorted\n");
-        return;
-    }
-    say(console, b", not sorted\n");
+    let abi = name_of(layout.abi);
+    let functions = Count(layout.functions as u64, "function");
+    let rows = Count(layout.rows as u64, "row");
+    let order = if layout.sorted {
+        "sorted"
+    } else {
+        "not sorted"
+    };
+    say(
+        console,
+        format_args!("accepted: {abi}, {functions}, {rows}, {order}\n"),
+    );
 }
 
 // Whether a section is accepted, and what it holds.
@@ -54,81 +45,41 @@ pub fn show_verdict(console: &Console, section: &[u8]) {
     }
 }
 
-pub fn say_base(console: &Console, base: Base) {
-    match base {
-        Base::Fp => say(console, b"FP"),
-        Base::Sp => say(console, b"SP"),
-    }
-}
-
-// An offset with its sign, and 0 as + 0.
-pub fn say_offset(console: &Console, offset: Offset) {
-    match shift_of(offset) {
-        Shift::Up(by) => {
-            say(console, b" + ");
-            say_number(console, by);
-        }
-        Shift::Down(by) => {
-            say(console, b" - ");
-            say_number(console, by);
-        }
-    }
-}
-
-// Where a register was saved, behind its name; `unsaved` says that it was not.
-pub fn say_place(console: &Console, place: Place, name: &[u8], unsaved: &[u8]) {
-    say(console, name);
-    match place {
-        Place::Register => say(console, unsaved),
-        Place::AtOffset(offset) => {
-            say(console, b" is at CFA");
-            say_offset(console, offset);
-        }
-    }
-}
-
-pub fn say_cfa(console: &Console, row: Row) {
-    let base = row.base;
-    let cfa = row.cfa;
-    say(console, b"CFA is ");
-    say_base(console, base);
-    say_offset(console, cfa);
-}
-
-fn show_row(console: &Console, row: Row) {
-    let ra = row.ra;
-    let fp = row.fp;
-    say_cfa(console, row);
-    say_place(console, ra, b"\nRA", b" is in LR");
-    if row.signed {
-        say(console, b"\nRA is signed");
-    }
-    say_place(console, fp, b"\nFP", b" is unchanged");
-    say(console, b"\n");
-}
-
+// Which row was found, behind its function.
 fn show_row_found(console: &Console, row: Row, number: u64) {
-    say_with_number(console, b", row ", number);
-    say_with_number(console, b", which starts at ", row.start as u64);
-    say(console, b"\n");
+    let start = row.start;
+    say(
+        console,
+        format_args!(", row {number}, which starts at {start}\n"),
+    );
 }
 
-// Which row was found.
 pub fn show_which(console: &Console, row: Row, function: u64, number: u64) {
-    say_with_number(console, b"found: function ", function);
+    say(console, format_args!("found: function {function}"));
     show_row_found(console, row, number);
 }
 
+fn show_row(console: &Console, row: Row) {
+    let cfa = Cfa(row);
+    let ra = Saved(row.ra, "in LR");
+    let signed = if row.signed { "\nRA is signed" } else { "" };
+    say(console, format_args!("{cfa}\nRA is {ra}{signed}\n"));
+    say(
+        console,
+        format_args!("FP is {}\n", Saved(row.fp, "unchanged")),
+    );
+}
+
 fn show_found(console: &Console, section: &[u8], row: Row, function: u64, number: u64) {
-    say_bounded(console, section, b"found: function ", function);
+    let function = Bounded { section, function };
+    say(console, format_args!("found: function {function}"));
     show_row_found(console, row, number);
     show_row(console, row);
 }
 
 // The PC of a refusal, as it was understood.
 fn show_looked_up(console: &Console, pc: u64) {
-    say_with_word(console, b"looked up: ", pc);
-    say(console, b"\n");
+    say(console, format_args!("looked up: {pc:016x}\n"));
 }
 
 fn show_disputed(console: &Console, section: &[u8], pc: u64, first: u64, second: u64) {
@@ -158,9 +109,7 @@ fn show_outcome(console: &Console, section: &[u8], pc: u64, outcome: Outcome) {
 }
 
 fn show_compared(console: &Console, compared: u64) {
-    say(console, b"entries compared: ");
-    say_number(console, compared);
-    say(console, b"\n");
+    say(console, format_args!("entries compared: {compared}\n"));
 }
 
 pub fn show_answer(console: &Console, section: &[u8], pc: u64, answer: Answer) {

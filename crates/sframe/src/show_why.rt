@@ -1,238 +1,210 @@
 // Why a lookup gives its answer: the answer, and below it sentences that can be checked by hand, each with its rule.
-ghost use Rattle.std.specs.Prelude.{◌≤◌};
-
 use crate::console::Console;
 use crate::hints::hint_of_unlinked;
 use crate::refusals::{show_refused, show_refused_in, show_unsound};
 use crate::say::say;
-use crate::sentence::{say_with_bytes, say_with_distance, say_with_number};
-use crate::show::{say_cfa, say_place, show_which};
+use crate::show::show_which;
+use crate::text::{Cfa, Count, Distance, Saved};
 use explain::looked::explain_lookup;
-use explain::why::{Covered, Coverers, FoundRow, LookupReason, NotFound};
+use explain::why::{Coverers, FoundRow, Looked, LookupReason, Nearest, NotFound, RowStart};
 use listing::function::{Described, Facts, Kind, function_at};
 use numbers::offset::{Shift, shift_of};
 use section::row::Row;
+use std::fmt;
 
 // 1 to 15. The rule of number N is 3.N.
 pub fn show_unsound_why(console: &Console, number: u64, index: u64) {
     show_unsound(console, number, index);
-    say_with_number(
+    say(
         console,
-        b"  no rule that is tried before this one is broken (SPECIFICATION 3.",
-        number,
+        format_args!(
+            "  no rule that is tried before this one is broken (SPECIFICATION 3.{number}, 3.16)\n"
+        ),
     );
-    say(console, b", 3.16)\n");
 }
 
-fn distance_of(address: u64, pc: u64) -> Shift {
+fn distance_of(address: u64, pc: u64) -> Distance {
     if pc < address {
-        return Shift::Down(address - pc);
+        return Distance(Shift::Down(address - pc));
     }
-    Shift::Up(pc - address)
+    Distance(Shift::Up(pc - address))
 }
 
 // Where the PC that is looked up lies in the section; `called` is what the sentence calls it.
-pub fn show_distance(console: &Console, called: &[u8], address: u64, pc: u64) {
-    say_with_distance(console, called, distance_of(address, pc));
-    say(console, b" from the section's first byte\n");
+pub fn show_distance(console: &Console, called: &str, address: u64, pc: u64) {
+    let distance = distance_of(address, pc);
+    say(
+        console,
+        format_args!("  {called} is {distance} from the section's first byte\n"),
+    );
 }
 
 // What the offset used counts from.
-fn say_origin(console: &Console, kind: Kind) {
-    match kind {
-        Kind::Plain => say(console, b", from the function's start"),
-        Kind::Repeated(size) => say_with_bytes(
-            console,
-            b", from the start of its block of ",
-            size as u64,
-        ),
+#[derive(Clone, Copy)]
+struct Origin(Kind);
+
+impl fmt::Display for Origin {
+    fn fmt<W: fmt::Write>(&self, f: &mut fmt::Formatter<W>) -> fmt::Result {
+        match self.0 {
+            Kind::Plain => f.write_str("the function's start"),
+            Kind::Repeated(size) => {
+                write!(
+                    f,
+                    "the start of its block of {}",
+                    Count(size as u64, "byte")
+                )
+            }
+        }
     }
 }
 
 fn show_covering(console: &Console, function: u64, offset: u64, facts: Facts) {
-    let start = facts.start;
-    let kind = facts.kind;
-    say_with_number(console, b"  function ", function);
-    say_with_distance(
+    let start = Distance(shift_of(facts.start));
+    let size = Count(facts.size as u64, "byte");
+    let origin = Origin(facts.kind);
+    say(
         console,
-        b" covers that, and no other does: it starts at ",
-        shift_of(start),
+        format_args!(
+            "  function {function} covers that, and no other does: it starts at {start} and has {size} (SPECIFICATION 4.1)\n"
+        ),
     );
-    say_with_bytes(console, b" and has ", facts.size as u64);
-    say_with_number(
+    say(
         console,
-        b" (SPECIFICATION 4.1)\n  the offset used is ",
-        offset,
+        format_args!("  the offset used is {offset}, from {origin} (SPECIFICATION 4.5)\n"),
     );
-    say_origin(console, kind);
-    say(console, b" (SPECIFICATION 4.5)\n");
 }
 
 // The one function that covers, and the offset used in it. An explanation names no function that is not there.
 fn show_function(console: &Console, section: &[u8], function: u64, offset: u64) {
     match function_at(section, function) {
-        Described::Unsound(number) => {}
-        Described::Unknown => {}
+        Described::Unsound(_) | Described::Unknown => {}
         Described::Function(facts) => show_covering(console, function, offset, facts),
     }
 }
 
-fn say_next(console: &Console, next: Option<u64>) {
-    match next {
-        Some(start) => {
-            say_with_number(console, b"the next row starts at ", start);
-            say(console, b", above it");
+// Where the row behind the one used starts.
+#[derive(Clone, Copy)]
+struct Next(RowStart);
+
+impl fmt::Display for Next {
+    fn fmt<W: fmt::Write>(&self, f: &mut fmt::Formatter<W>) -> fmt::Result {
+        match self.0 {
+            RowStart::Is(start) => write!(f, "the next row starts at {start}, above it"),
+            RowStart::Missing => f.write_str("there is no next row"),
         }
-        None => say(console, b"there is no next row"),
     }
 }
 
-fn show_row_used(console: &Console, number: u64, start: u64, next: Option<u64>) {
-    say_with_number(console, b"  row ", number);
-    say_with_number(console, b" starts at ", start);
-    say(console, b", not above the offset used, and ");
-    say_next(console, next);
-    say(console, b" (SPECIFICATION 4.7)\n");
-}
-
-fn say_signed(console: &Console, signed: bool) {
-    if signed {
-        say(console, b" and signed");
-    }
+fn show_row_used(console: &Console, number: u64, start: u32, next: Next) {
+    say(
+        console,
+        format_args!(
+            "  row {number} starts at {start}, not above the offset used, and {next} (SPECIFICATION 4.7)\n"
+        ),
+    );
 }
 
 fn show_by_row(console: &Console, row: Row) {
-    let ra = row.ra;
-    let fp = row.fp;
-    say(console, b"  by that row, ");
-    say_cfa(console, row);
-    say_place(console, ra, b", RA", b" is in LR");
-    say_signed(console, row.signed);
-    say_place(console, fp, b", FP", b" is unchanged");
-    say(console, b" (SPECIFICATION 2.9)\n");
+    let cfa = Cfa(row);
+    let ra = Saved(row.ra, "in LR");
+    let fp = Saved(row.fp, "unchanged");
+    let signed = if row.signed { " and signed" } else { "" };
+    say(
+        console,
+        format_args!("  by that row, {cfa}, RA is {ra}{signed}, FP is {fp} (SPECIFICATION 2.9)\n"),
+    );
 }
 
 // The sentences of a row that is found, behind its place.
 pub fn show_found_why(console: &Console, section: &[u8], found: FoundRow) {
     let row = found.row;
-    let next = found.next;
+    let next = Next(found.next);
     show_function(console, section, found.function, found.offset);
-    show_row_used(console, found.number, row.start as u64, next);
+    show_row_used(console, found.number, row.start, next);
     show_by_row(console, row);
 }
 
-// The covered address nearest on one side: `covered` begins the sentence, and `nothing` is the one where there is none.
-fn show_near(console: &Console, near: Option<Covered>, covered: &[u8], nothing: &[u8]) {
+// The covered address nearest on one side. The answer is whether there is one.
+fn show_near(console: &Console, side: &str, near: Nearest) -> bool {
     match near {
-        Some(Covered { offset, function }) => {
-            say_with_distance(console, covered, shift_of(offset));
-            say_with_number(console, b", by function ", function);
-            say(console, b"\n");
+        Nearest::Covered { offset, function } => {
+            let place = Distance(shift_of(offset));
+            say(
+                console,
+                format_args!(
+                    "  the nearest address {side} that a function covers is {place}, by function {function}\n"
+                ),
+            );
+            true
         }
-        None => say(console, nothing),
+        Nearest::Nothing => {
+            say(
+                console,
+                format_args!("  no function covers an address {side}\n"),
+            );
+            false
+        }
     }
 }
 
-fn is_covered(near: Option<Covered>) -> bool {
-    match near {
-        Some(Covered { offset, function }) => true,
-        None => false,
-    }
-}
-
-// What is not covered, by whether an address is covered on each side. In a step PC itself may be: the PC looked up is not.
-fn show_uncovered(console: &Console, below: bool, above: bool) {
-    if below != above {
-        say(
-            console,
-            b"  nothing up to it is covered, the PC looked up included (SPECIFICATION 4.1, 4.3)\n",
-        );
-        return;
-    }
-    if below {
-        say(
-            console,
-            b"  nothing between is covered, the PC looked up included (SPECIFICATION 4.1, 4.3)\n",
-        );
-        return;
-    }
-    say(console, b"  nothing is covered (SPECIFICATION 4.1, 4.3)\n");
-}
-
-// 21.
-fn show_no_function(console: &Console, below: Option<Covered>, above: Option<Covered>) {
-    show_near(
+// 21, with what is not covered, by whether an address is covered on each side. In a step PC itself may be: the PC looked up is not.
+fn show_no_function(console: &Console, below: Nearest, above: Nearest) {
+    let below = show_near(console, "below", below);
+    let above = show_near(console, "above", above);
+    let uncovered = match (below, above) {
+        (true, true) => "nothing between is covered, the PC looked up included",
+        (false, false) => "nothing is covered",
+        _ => "nothing up to it is covered, the PC looked up included",
+    };
+    say(
         console,
-        below,
-        b"  the nearest address below that a function covers is ",
-        b"  no function covers an address below\n",
+        format_args!("  {uncovered} (SPECIFICATION 4.1, 4.3)\n"),
     );
-    show_near(
-        console,
-        above,
-        b"  the nearest address above that a function covers is ",
-        b"  no function covers an address above\n",
-    );
-    show_uncovered(console, is_covered(below), is_covered(above));
 }
 
-// An index in a list of them, i being its place.
-fn say_index(console: &Console, i: usize, index: u64) {
-    if i == 0 {
-        say_with_number(console, b": ", index);
-        return;
-    }
-    say_with_number(console, b", ", index);
-}
-
-fn say_indexes(console: &Console, indexes: [u64; 16], told: usize)
-    requires { told ≤ 16 }
-{
-    for i in 0..told {
-        say_index(console, i, indexes[i]);
-    }
-}
-
-// The first functions that cover; of many, 16 are told.
+// The first functions that cover, separated by commas; of many, 16 are told.
 fn say_coverers(console: &Console, coverers: Coverers) {
-    let indexes = coverers.indexes;
-    if coverers.count <= 16 {
-        say_indexes(console, indexes, coverers.count as usize);
-        return;
+    if 16 < coverers.count {
+        say(console, ", the first 16 are");
     }
-    say(console, b", the first 16 are");
-    say_indexes(console, indexes, 16);
+    for (i, index) in coverers
+        .indexes
+        .iter()
+        .take(coverers.count as usize)
+        .enumerate()
+    {
+        let mark = if i == 0 { ":" } else { "," };
+        say(console, format_args!("{mark} {index}"));
+    }
 }
 
 // 22.
 fn show_dispute_why(console: &Console, coverers: Coverers) {
-    say_with_number(console, b"  ", coverers.count);
-    say(console, b" functions cover that");
+    let count = coverers.count;
+    say(console, format_args!("  {count} functions cover that"));
     say_coverers(console, coverers);
-    say(console, b" (SPECIFICATION 4.1, 4.4)\n");
+    say(console, " (SPECIFICATION 4.1, 4.4)\n");
 }
 
 // 23.
-fn show_first(console: &Console, first: Option<u64>) {
+fn show_first(console: &Console, first: RowStart) {
     match first {
-        Some(start) => {
-            say_with_number(console, b"  its first row starts at ", start);
-            say(console, b", above the offset used (SPECIFICATION 4.6)\n");
-        }
-        None => say(console, b"  it has no rows (SPECIFICATION 4.6)\n"),
+        RowStart::Is(start) => say(
+            console,
+            format_args!(
+                "  its first row starts at {start}, above the offset used (SPECIFICATION 4.6)\n"
+            ),
+        ),
+        RowStart::Missing => say(console, "  it has no rows (SPECIFICATION 4.6)\n"),
     }
 }
 
 // 21 to 23, without the sentences.
 pub fn show_not_found(console: &Console, why: NotFound) {
     match why {
-        NotFound::NoFunction { below, above } => show_refused(console, 21),
+        NotFound::NoFunction { .. } => show_refused(console, 21),
         NotFound::Dispute => show_refused(console, 22),
-        NotFound::NoRow {
-            function,
-            offset,
-            first,
-        } => show_refused_in(console, 23, function),
+        NotFound::NoRow { function, .. } => show_refused_in(console, 23, function),
     }
 }
 
@@ -255,37 +227,20 @@ pub fn show_not_found_why(console: &Console, section: &[u8], why: NotFound, cove
     }
 }
 
-fn show_looked_why(
-    console: &Console,
-    section: &[u8],
-    address: u64,
-    pc: u64,
-    looked: Result<FoundRow, NotFound>,
-    coverers: Coverers,
-) {
-    match looked {
-        Ok(found) => {
-            let row = found.row;
-            show_which(console, row, found.function, found.number);
-            show_distance(console, b"  PC is ", address, pc);
-            show_found_why(console, section, found);
-        }
-        Err(why) => {
-            show_not_found(console, why);
-            show_distance(console, b"  PC is ", address, pc);
-            show_not_found_why(console, section, why, coverers);
-        }
-    }
-}
-
 pub fn show_lookup_why(console: &Console, section: &[u8], address: u64, pc: u64) {
     let why = explain_lookup(section, address, pc);
-    let reason = why.reason;
     let coverers = why.coverers;
-    match reason {
+    match why.reason {
         LookupReason::Unsound { number, index } => show_unsound_why(console, number, index),
-        LookupReason::Accepted(looked) => show_looked_why(
-            console, section, address, pc, looked, coverers,
-        ),
+        LookupReason::Accepted(Looked::Found(found)) => {
+            show_which(console, found.row, found.function, found.number);
+            show_distance(console, "PC", address, pc);
+            show_found_why(console, section, found);
+        }
+        LookupReason::Accepted(Looked::NotFound(why)) => {
+            show_not_found(console, why);
+            show_distance(console, "PC", address, pc);
+            show_not_found_why(console, section, why, coverers);
+        }
     }
 }

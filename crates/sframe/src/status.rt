@@ -1,10 +1,7 @@
 // What a run comes to, for the command `sframe`, which starts this program: it listens on a descriptor of its own, and says so by a
 // last argument. At its end the run says a 1 there where something is refused, a 2 where something is wrong, and behind it a 0: the
 // highest digit counts.
-ghost use Rattle.std.specs.Prelude.{◌≤◌, length};
-
 use crate::console::{Console, Status};
-use crate::text::is_same;
 use std::env::FillError;
 use std::fs::OpenOptions;
 use std::io::Write;
@@ -16,13 +13,11 @@ const STATUS_FILE: &str = "/dev/fd/9";
 // The most bytes of an argument that are looked at.
 pub const ARGUMENT: usize = 4096;
 
-// Puts argument i at the start of a text, and answers how many bytes it has: 0 where it is missing, or longer than the text.
-pub fn put_argument(rt: &impl Env, i: usize, text: &mut [u8]) -> usize
-    ensures { result ≤ length text.new }
-{
-    match rt.arg(i, text) {
-        Ok(n) => n,
-        Err(_) => 0,
+// Argument i, put into a room: nothing where it is missing, or longer than the room.
+pub fn argument<'a>(rt: &impl Env, i: usize, room: &'a mut [u8]) -> &'a [u8] {
+    match rt.arg(i, room) {
+        Ok(n) => &room[..n],
+        Err(_) => &[],
     }
 }
 
@@ -39,12 +34,8 @@ fn all_arguments(rt: &impl Env) -> usize {
 
 fn is_heard(rt: &impl Env) -> bool {
     let count = all_arguments(rt);
-    if count < 2 {
-        return false;
-    }
     let mut last = [0u8; ARGUMENT];
-    let n = put_argument(rt, count - 1, &mut last);
-    is_same(&last[..n], b"status-on-9")
+    1 < count && argument(rt, count - 1, &mut last) == b"status-on-9".as_slice()
 }
 
 // Where nobody listens to what is written, there is nowhere to say so.
@@ -78,12 +69,5 @@ pub fn tell_wrong(console: &Console) {
 
 // How many arguments a person gave, with the program's name.
 pub fn argument_count(rt: &impl Env) -> usize {
-    let count = all_arguments(rt);
-    if count < 1 {
-        return 0;
-    }
-    if is_heard(rt) {
-        return count - 1;
-    }
-    count
+    all_arguments(rt).saturating_sub(is_heard(rt) as usize)
 }

@@ -3,5 +3,5 @@ use crate::console::Console;
 use crate::say::say;
 
 pub fn show_version(console: &Console) {
-    say(console, b"sframe 0.6.1\n");
+    say(console, "sframe 0.6.1\n");
 }

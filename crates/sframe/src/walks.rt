@@ -1,18 +1,14 @@
 // One caller, why it is that, and a whole trace: the arguments that all take, the file of the stack window, and the calls.
-ghost use Rattle.std.specs.Prelude.{◌≤◌, length};
-
 use crate::arguments::{
-    Loaded, Opened, Source, complain_of_length, count_given, is_input, number_given, open_given,
-    read_given,
+    Opened, complain_of_length, count_given, is_input, number_given, open_given, read_given,
 };
 use crate::console::Console;
-use crate::rooms::{Largest, large_room, largest_room, largest_within, small_room, smallest_room};
+use crate::rooms::{Long, Room, in_rooms, largest_within};
 use crate::say::complain;
-use crate::sections::Turn;
 use crate::show_step_why::show_step_why;
 use crate::show_walks::{show_limit, show_step, show_trace};
+use crate::status::argument_count;
 use caller::registers::{Process, Registers};
-use digits::Parsed;
 use std::rt::{Env, Files};
 use trace::walk::trace;
 
@@ -27,368 +23,139 @@ pub enum Sought {
     Trace,
 }
 
-// How many arguments stand behind the command where MASK is the last of them.
-const WITH_MASK: usize = 10;
-
-// Where the stack lies and what the registers hold, without a mark.
+// What is sought, and in which section.
 #[derive(Clone, Copy)]
-enum Start {
-    From { registers: Registers, stack: u64 },
-    Wrong,
+struct Walk<'a> {
+    sought: Sought,
+    section: &'a [u8],
+    address: u64,
 }
 
-// Arguments 5 to 9.
-fn start_given(rt: &impl Env, console: &Console) -> Start {
-    let Parsed::Number(stack) = number_given(rt, console, 5, b"STACK_ADDRESS") else {
-        return Start::Wrong;
+// Where a walk starts: the process without a mask, and the registers without a mark. Arguments 5 to 9.
+fn start_given(rt: &impl Env, console: &Console, address: u64) -> Option<(Process, Registers)> {
+    let process = Process {
+        section: address,
+        stack: number_given(rt, console, 5, "STACK_ADDRESS")?,
+        mask: 0,
     };
-    let Parsed::Number(pc) = number_given(rt, console, 6, b"PC") else {
-        return Start::Wrong;
+    let registers = Registers {
+        pc: number_given(rt, console, 6, "PC")?,
+        sp: number_given(rt, console, 7, "SP")?,
+        fp: number_given(rt, console, 8, "FP")?,
+        lr: number_given(rt, console, 9, "LR")?,
+        first: 0,
     };
-    let Parsed::Number(sp) = number_given(rt, console, 7, b"SP") else {
-        return Start::Wrong;
-    };
-    let Parsed::Number(fp) = number_given(rt, console, 8, b"FP") else {
-        return Start::Wrong;
-    };
-    let Parsed::Number(lr) = number_given(rt, console, 9, b"LR") else {
-        return Start::Wrong;
-    };
-    Start::From {
-        registers: Registers {
-            pc: pc,
-            sp: sp,
-            fp: fp,
-            lr: lr,
-            first: 0,
-        },
-        stack: stack,
-    }
+    Some((process, registers))
 }
 
 // MASK, or 0 where it is left out.
-fn mask_given(rt: &impl Env, console: &Console, given: usize) -> Parsed {
-    if given < WITH_MASK {
-        return Parsed::Number(0);
+fn mask_given(rt: &impl Env, console: &Console) -> Option<u64> {
+    if argument_count(rt) < 12 {
+        return Some(0);
     }
-    number_given(rt, console, 11, b"MASK")
+    number_given(rt, console, 11, "MASK")
 }
 
-// The caller, or why it is that.
-fn answer_step(
-    console: &Console,
-    why: bool,
-    section: &[u8],
-    stack: &[u8],
-    process: Process,
-    registers: Registers,
-) {
-    if why {
-        show_step_why(console, section, stack, process, registers);
-        return;
-    }
-    show_step(console, section, registers.step(section, stack, process));
-}
-
-fn answer_caller(
-    rt: &impl Env,
-    console: &Console,
-    why: bool,
-    section: &[u8],
-    stack: &[u8],
-    process: Process,
-    registers: Registers,
-    given: usize,
-) {
-    let Parsed::Number(first) = number_given(rt, console, 10, b"FIRST") else {
-        return;
-    };
-    let Parsed::Number(mask) = mask_given(rt, console, given) else {
-        return;
-    };
-    let mut masked = process;
-    masked.mask = mask;
-    let mut marked = registers;
-    marked.first = first;
-    answer_step(console, why, section, stack, masked, marked);
-}
-
-fn words_room() -> [u64; WORDS] {
-    [0u64; WORDS]
-}
-
-// How many words the frames have, and never more than there are.
-fn written_in(buffer: &[u64], frames: u64) -> usize
-    ensures { result ≤ length buffer.now }
-{
-    if ((buffer.len() / 3) as u64) < frames {
-        return buffer.len();
-    }
-    3 * frames as usize
-}
-
-fn trace_into(
+fn trace_from(
     console: &Console,
     section: &[u8],
     stack: &[u8],
     process: Process,
     registers: Registers,
     limit: u64,
-    buffer: &mut [u64],
 ) {
-    let traced = trace(section, stack, process, registers, limit, buffer);
-    let written = written_in(buffer, traced.frames);
+    let mut buffer = [0u64; WORDS];
+    let traced = trace(section, stack, process, registers, limit, &mut buffer);
+    let written = (traced.frames as usize).saturating_mul(3).min(WORDS);
     show_trace(console, section, registers, traced, &buffer[..written]);
-}
-
-fn answer_trace(
-    rt: &impl Env,
-    console: &Console,
-    section: &[u8],
-    stack: &[u8],
-    process: Process,
-    registers: Registers,
-    given: usize,
-) {
-    let Parsed::Number(limit) = count_given(rt, console, 10, b"LIMIT") else {
-        return;
-    };
-    let Parsed::Number(mask) = mask_given(rt, console, given) else {
-        return;
-    };
-    let mut masked = process;
-    masked.mask = mask;
-    let mut buffer = words_room();
-    trace_into(
-        console,
-        section,
-        stack,
-        masked,
-        registers,
-        limit,
-        &mut buffer,
-    );
     show_limit(console, limit);
 }
 
-fn answer_from(
-    rt: &impl Env,
-    console: &Console,
-    sought: Sought,
-    section: &[u8],
-    address: u64,
-    stack: &[u8],
-    given: usize,
-) {
-    match start_given(rt, console) {
-        Start::Wrong => {}
-        Start::From {
-            registers,
-            stack: lies,
-        } => {
-            let process = Process {
-                section: address,
-                stack: lies,
-                mask: 0,
-            };
-            match sought {
-                Sought::Caller => answer_caller(
-                    rt, console, false, section, stack, process, registers, given,
-                ),
-                Sought::Why => answer_caller(
-                    rt, console, true, section, stack, process, registers, given,
-                ),
-                Sought::Trace => answer_trace(
-                    rt, console, section, stack, process, registers, given,
-                ),
-            }
+// The answer, unless what is wrong with an argument was told.
+fn answer_from(rt: &impl Env, console: &Console, walk: Walk<'_>, stack: &[u8]) -> Option<()> {
+    let section = walk.section;
+    let (mut process, mut registers) = start_given(rt, console, walk.address)?;
+    match walk.sought {
+        Sought::Trace => {
+            let limit = count_given(rt, console, 10, "LIMIT")?;
+            process.mask = mask_given(rt, console)?;
+            trace_from(console, section, stack, process, registers, limit);
+        }
+        Sought::Caller => {
+            registers.first = number_given(rt, console, 10, "FIRST")?;
+            process.mask = mask_given(rt, console)?;
+            show_step(console, section, registers.step(section, stack, process));
+        }
+        Sought::Why => {
+            registers.first = number_given(rt, console, 10, "FIRST")?;
+            process.mask = mask_given(rt, console)?;
+            show_step_why(console, section, stack, process, registers);
         }
     }
+    Some(())
 }
 
 fn walk_in<R: Env + Files + Input>(
     rt: &R,
     console: &Console,
-    file: &mut Source<R::File>,
-    sought: Sought,
-    section: &[u8],
-    address: u64,
-    given: usize,
+    opened: &mut Opened<R::File>,
+    walk: Walk<'_>,
     room: &mut [u8],
-) -> Turn {
-    match read_given(rt, console, 4, file, room) {
-        Loaded::Failed => Turn::Done,
-        Loaded::Long => Turn::Long,
-        Loaded::Bytes(n) => {
-            answer_from(rt, console, sought, section, address, &room[..n], given);
-            Turn::Done
-        }
+) -> Result<(), Long> {
+    let size = room.len();
+    let Some(stack) = read_given(rt, console, 4, opened, room) else {
+        return Ok(());
+    };
+    if stack.len() == size {
+        return Err(Long);
     }
-}
-
-fn walk_in_smallest<R: Env + Files + Input>(
-    rt: &R,
-    console: &Console,
-    file: &mut Source<R::File>,
-    sought: Sought,
-    section: &[u8],
-    address: u64,
-    given: usize,
-) -> Turn {
-    let mut room = smallest_room();
-    walk_in(
-        rt, console, file, sought, section, address, given, &mut room,
-    )
-}
-
-fn walk_in_small<R: Env + Files + Input>(
-    rt: &R,
-    console: &Console,
-    file: &mut Source<R::File>,
-    sought: Sought,
-    section: &[u8],
-    address: u64,
-    given: usize,
-) -> Turn {
-    let mut room = small_room();
-    walk_in(
-        rt, console, file, sought, section, address, given, &mut room,
-    )
-}
-
-fn walk_in_large<R: Env + Files + Input>(
-    rt: &R,
-    console: &Console,
-    file: &mut Source<R::File>,
-    sought: Sought,
-    section: &[u8],
-    address: u64,
-    given: usize,
-) -> Turn {
-    let mut room = large_room();
-    walk_in(
-        rt, console, file, sought, section, address, given, &mut room,
-    )
-}
-
-fn walk_in_largest<R: Env + Files + Input>(
-    rt: &R,
-    console: &Console,
-    file: &mut Source<R::File>,
-    sought: Sought,
-    section: &[u8],
-    address: u64,
-    given: usize,
-) -> Turn {
-    let mut room = largest_room();
-    walk_in(
-        rt, console, file, sought, section, address, given, &mut room,
-    )
-}
-
-// As `ask_up_to` of sections, for the file of the stack window.
-fn walk_up_to<R: Env + Files + Input>(
-    rt: &R,
-    console: &Console,
-    room: usize,
-    file: &mut Source<R::File>,
-    once: bool,
-    sought: Sought,
-    section: &[u8],
-    address: u64,
-    given: usize,
-) -> Turn {
-    if 0 < room {
-        if !once {
-            let smaller = walk_up_to(
-                rt,
-                console,
-                room - 1,
-                file,
-                once,
-                sought,
-                section,
-                address,
-                given,
-            );
-            if let Turn::Done = smaller {
-                return smaller;
-            }
-        }
-    }
-    match room {
-        0 => walk_in_smallest(rt, console, file, sought, section, address, given),
-        1 => walk_in_small(rt, console, file, sought, section, address, given),
-        2 => walk_in_large(rt, console, file, sought, section, address, given),
-        _ => walk_in_largest(rt, console, file, sought, section, address, given),
-    }
-}
-
-// The smallest room was left free for this.
-fn room_within(left: u64) -> usize {
-    match largest_within(left) {
-        Largest::Room(room) => room,
-        Largest::None => 0,
-    }
+    let _ = answer_from(rt, console, walk, stack);
+    Ok(())
 }
 
 fn is_one_input(rt: &impl Env, console: &Console) -> bool {
-    if is_input(rt, 2) {
-        if is_input(rt, 4) {
-            complain(
-                console,
-                b"sframe: FILE and STACK cannot both be standard input\n",
-            );
-            return false;
-        }
+    let is_one = !is_input(rt, 2) || !is_input(rt, 4);
+    if !is_one {
+        complain(
+            console,
+            "sframe: FILE and STACK cannot both be standard input\n",
+        );
     }
-    true
+    is_one
 }
 
-// In this room, or a smaller one.
-fn walk_opened(
-    rt: &(impl Env + Files + Input),
-    console: &Console,
-    sought: Sought,
-    section: &[u8],
-    address: u64,
-    given: usize,
-    room: usize,
-) {
-    match open_given(rt, console, 4, b"sframe: STACK") {
-        Opened::Failed => {}
-        Opened::File { file, once } => {
-            let mut file = file;
-            if let Turn::Long = walk_up_to(
-                rt, console, room, &mut file, once, sought, section, address, given,
-            ) {
-                complain_of_length(rt, console, 4, room);
-            }
-        }
+// In a room up to this one.
+fn walk_opened<R: Env + Files + Input>(rt: &R, console: &Console, walk: Walk<'_>, largest: Room) {
+    let Some(opened) = open_given(rt, console, 4, "sframe: STACK") else {
+        return;
+    };
+    let mut opened = opened;
+    let attempt = |opened: &mut Opened<R::File>, room: &mut [u8]| walk_in(
+        rt, console, opened, walk, room,
+    );
+    if let Err(Long) = in_rooms(largest, &mut opened, &attempt) {
+        complain_of_length(rt, console, 4, largest);
     }
 }
 
-// With so much of the stack left for the room of the window.
-pub fn answer_walk(
-    rt: &(impl Env + Files + Input),
+// With so much of the stack left for the room of the window; the smallest room was left free for it.
+pub fn answer_walk<R: Env + Files + Input>(
+    rt: &R,
     console: &Console,
     sought: Sought,
     section: &[u8],
-    given: usize,
     left: u64,
 ) {
-    let Parsed::Number(address) = number_given(rt, console, 3, b"ADDRESS") else {
+    let Some(address) = number_given(rt, console, 3, "ADDRESS") else {
         return;
     };
     if is_one_input(rt, console) {
-        walk_opened(
-            rt,
-            console,
+        let walk = Walk {
             sought,
             section,
             address,
-            given,
-            room_within(left),
-        );
+        };
+        let largest = largest_within(left).unwrap_or(Room::Smallest);
+        walk_opened(rt, console, walk, largest);
     }
 }

@@ -1,27 +1,19 @@
--- `parse` takes a leading 0x off, which only text of two bytes or more has.
+-- `parse` takes a leading 0x off, by the first two bytes.
 -- Assumes nothing.
 use borrow.Author.Rules.{rules}
-use mathlib.Core.Path.{sym, ◌∙◌}
-use lib.ListN.{length}
-use Prim.Native.Nat.{◌≤◌}
-use Rattle.digits.proofs.DigitLaws.{marked_long, hex_marked, hex_plain}
+use mathlib.Core.Path.{◌∙◌}
+use Rattle.digits.proofs.DigitLaws.{hex_small, hex_capital, hex_short, hex_other, hex_unmarked}
 use Rattle.digits.proofs.parse.Goals as goal
-use Rattle.digits.proofs.parse.Goals.{Then-is_marked}
+use Rattle.digits.proofs.parse.Goals.{in_default-via-then-text-lt2, in_default-via-else-text-lt2+in-48+in_default-1, in_default-via-else-text-lt2+in_default-1}
 
--- two bytes come off only where there are two
-long : (c : Then-is_marked) → 2 ≤ length c.args.text.now
-long c = marked_long _ (sym c.is_marked.ensures ∙ c.if-is_marked.true)
+pub returns-in-48 : goal.returns-in-48
+returns-in-48 c = c.number_of.ensures ∙ search (rules, hex_small, hex_capital)
 
-pub slice_bounds-number_of-count : goal.slice_bounds-number_of-count
-slice_bounds-number_of-count c = long c
-
-pub slice_bounds-number_of-start : goal.slice_bounds-number_of-start
-slice_bounds-number_of-start c = let two = long c in search rules
-
-pub returns-then-is_marked : goal.returns-then-is_marked
-returns-then-is_marked c =
-    c.number_of.ensures ∙ sym (hex_marked _ (sym c.is_marked.ensures ∙ c.if-is_marked.true))
-
-pub returns : goal.returns
-returns c =
-    c.number_of-2.ensures ∙ sym (hex_plain _ (sym c.is_marked.ensures ∙ c.if-is_marked.false))
+pub returns-in_default : goal.returns-in_default
+returns-in_default c =
+    c.number_of-in_default.ensures
+    ∙ elim c.in_default.branch [
+      | in_default-via-then-text-lt2 w ↦ hex_short _ (search rules)
+      | in_default-via-else-text-lt2+in-48+in_default-1 w ↦ hex_unmarked _ (search rules) (search rules) (search rules)
+      | in_default-via-else-text-lt2+in_default-1 w ↦ hex_other _ (search rules)
+    ]

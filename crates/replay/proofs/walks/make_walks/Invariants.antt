@@ -1,9 +1,6 @@
--- `make_walks` stays within the walks: a turn begins only where eleven words are left, and ends where the stack does.
-use Rattle.std.proofs.Common.{length, ◌-◌, ◌≤◌}
+-- `make_walks` ends, since each walk leaves less of them.
+use Rattle.std.proofs.Common.{length}
 use Rattle.replay.proofs.walks.make_walks.Given as goal
 
-abbrev pub invariant-loop-at : goal.invariant-loop-at
-invariant-loop-at g l = l.at ≤ length l.walks
-
-abbrev pub decreases-loop-at : goal.decreases-loop-at
-decreases-loop-at g l = length l.walks - l.at
+abbrev pub decreases-loop-head : goal.decreases-loop-head
+decreases-loop-head g l = length l.rest

@@ -5,4 +5,4 @@ use Rattle.accept.proofs.AcceptedLaws.{accepted_laws}
 use Rattle.sframe.proofs.list.list_one.Goals as goal
 
 pub layout_at-requires : goal.layout_at-requires
-layout_at-requires g c = (accepted_laws _ (sym c.check.ensures ∙ c.in-Accepted.is)).header.rule1
+layout_at-requires c = (accepted_laws _ (sym c.check.ensures ∙ c.in-Accepted.is)).header.rule1

@@ -1,0 +1,77 @@
+// The stored cases, which stand in the file one after the other.
+//
+// A case is a head of 66 bytes (its name in 38, then behind a space each, in 8 decimal digits, the section's length, the number of
+// questions and how many bytes its walks have, and a line's end), the section's bytes, 16 bytes for each question (the section's
+// address and the PC, 8 bytes each, little-endian), and the walks (`walks`).
+ghost use Rattle.std.specs.Prelude.{◌≤◌, ◌<◌, length, IfSome};
+ghost use Rattle.std.specs.Iterator.{at_most};
+
+use numbers::field::{Order, u64_at};
+
+#[derive(Clone, Copy)]
+pub struct Case<'a> {
+    pub name: &'a [u8],
+    pub section: &'a [u8],
+    pub questions: &'a [[u8; 16]],
+    pub walks: &'a [u8],
+}
+
+// The cases in turn. The last one is none where it is cut.
+#[derive(Drop)]
+pub struct Cases<'a>(pub &'a [u8]);
+
+impl<'a> Iterator for Cases<'a> {
+    type Item = Option<Case<'a>>;
+
+    ghost remaining = { λ s. at_most (length s.0.now) };
+
+    fn next(&mut self) -> Option<Option<Case<'a>>> {
+        let (head, behind) = self.0.split_first_chunk::<66>()?;
+        match case_behind(head, behind) {
+            Some((case, rest)) => {
+                self.0 = rest;
+                Some(Some(case))
+            }
+            None => {
+                self.0 = &[];
+                Some(None)
+            }
+        }
+    }
+}
+
+// The case that a head begins, and what stands behind the case.
+fn case_behind<'a>(head: &'a [u8; 66], behind: &'a [u8]) -> Option<(Case<'a>, &'a [u8])>
+    ensures { IfSome result (λ found. length found.1.now ≤ length behind.now) }
+{
+    let (section, behind) = behind.split_at_checked(number_in(&head[39..47]))?;
+    let (questions, behind) = behind.split_at_checked(number_in(&head[48..56]).saturating_mul(16))?;
+    let (questions, _) = questions.as_chunks::<16>();
+    let (walks, behind) = behind.split_at_checked(number_in(&head[57..65]))?;
+    let case = Case {
+        name: &head[..38],
+        section,
+        questions,
+        walks,
+    };
+    Some((case, behind))
+}
+
+// The number that decimal digits make. A case has 8 of them, so that it is exact.
+fn number_in(digits: &[u8]) -> usize {
+    digits.iter().fold(0usize, |number, digit| {
+        number.saturating_mul(10).saturating_add(digit_of(*digit))
+    })
+}
+
+// The digit that a byte of text stands for.
+fn digit_of(text: u8) -> usize {
+    (text as usize).saturating_sub(48) % 10
+}
+
+// The section's address and the PC of a question.
+pub fn asked_in(question: &[u8; 16]) -> (u64, u64) {
+    let address = u64_at(question, 0, Order::Little);
+    let pc = u64_at(question, 8, Order::Little);
+    (address, pc)
+}
