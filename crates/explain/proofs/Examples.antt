@@ -15,25 +15,24 @@ use Rattle.section.specs.declared.row.Place.TheVariants.{Register}
 use Rattle.section.specs.declared.row.Row.{Row}
 use Rattle.caller.specs.declared.registers.Process.{Process}
 use Rattle.caller.specs.declared.registers.Registers.{Registers}
+use Rattle.caller.specs.declared.place.Needed.TheVariants.{Ra}
 use Rattle.explain.specs.Computed.Coverers.{no_coverers}
 use Rattle.explain.specs.Computed.Lookup.{lookup_why}
 use Rattle.explain.specs.Computed.Step.{from_row_why, step_why}
 use Rattle.explain.specs.Computed.Sum.{sum_of}
 use Rattle.explain.specs.Inner.Opened.{explain_opened}
+use Rattle.explain.specs.LookupReason.{LookupWhy}
+use Rattle.explain.specs.LookupReason as lookup
+use Rattle.explain.specs.StepReason.{StepReason, StepWhy}
+use Rattle.explain.specs.StepReason as step
 use Rattle.explain.specs.declared.sums.Sum.{Sum}
 use Rattle.explain.specs.declared.sums.Sum.TheVariants.{At, Below, Above}
 use Rattle.explain.specs.declared.why.FoundRow.{FoundRow}
-use Rattle.explain.specs.declared.why.LookupReason.TheVariants as lookup
-use Rattle.explain.specs.declared.why.LookupWhy.{LookupWhy}
 use Rattle.explain.specs.declared.why.Covered.{Covered}
-use Rattle.explain.specs.declared.why.Needed.TheVariants.{Ra}
 use Rattle.explain.specs.declared.why.NotFound.{NotFound}
 use Rattle.explain.specs.declared.why.NotFound.TheVariants.{NoFunction, Dispute, NoRow}
 use Rattle.explain.specs.declared.why.RowReason.{RowReason}
 use Rattle.explain.specs.declared.why.RowReason.TheVariants.{Caller, Signed, CfaOutside, CfaLow, RaLost, WordOutside}
-use Rattle.explain.specs.declared.why.StepReason.{StepReason}
-use Rattle.explain.specs.declared.why.StepReason.TheVariants as step
-use Rattle.explain.specs.declared.why.StepWhy.{StepWhy}
 
 -- ---- lookups, "Loaded at 0x400000"
 

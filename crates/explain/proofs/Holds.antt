@@ -43,6 +43,8 @@ use Rattle.caller.specs.declared.registers.Process.{Process}
 use Rattle.caller.specs.declared.registers.Registers.{Registers}
 use Rattle.caller.proofs.Asked.{asked_exactly_when, nowhere_exactly_when}
 use Rattle.caller.proofs.TestLaws.{fits_shows, maskless_shows, low_shows, lost_shows, in_memory_lem, out_of_memory, memory_decided}
+use Rattle.caller.specs.declared.place.Needed.{Needed}
+use Rattle.caller.specs.declared.place.Needed.TheVariants.{Ra, Fp}
 use Rattle.explain.specs.Why.{StartIs, AboveOffset, WhyFound, WhyNoRow, NearestBelow, NearestAbove, AllCovering, WhyLooked, WhyUnsound, WhyLookup, WhySigned, WhyCfaOutside, WhyCfaLow, WhyRaLost, NeededAt, WhyWordOutside, WhyRow, WhyWindow, WhyAt, WhyNothingAsked, WhyStepReason, WhyStep}
 use Rattle.explain.specs.Computed.Coverers.{no_coverers, coverers_in}
 use Rattle.explain.specs.Computed.Lookup.{start_in, by_scan, in_function, alone_why, no_function_why, by_cover, looked_of, why_after, lookup_why}
@@ -51,8 +53,6 @@ use Rattle.explain.specs.Computed.Step.{fetched_of, outside_why, caller_why, wit
 use Rattle.explain.specs.declared.nearby.Side.TheVariants.{Below, Above}
 use Rattle.explain.specs.declared.why.Coverers.{Coverers}
 use Rattle.explain.specs.declared.why.FoundRow.{FoundRow}
-use Rattle.explain.specs.declared.why.Needed.{Needed}
-use Rattle.explain.specs.declared.why.Needed.TheVariants.{Ra, Fp}
 use Rattle.explain.proofs.FetchLaws.{fetch_decided, not_outside}
 use Rattle.explain.proofs.GatherLaws.{all_covering}
 use Rattle.explain.proofs.NearestLaws.{nearest_below, nearest_above}

@@ -33,23 +33,21 @@ use Rattle.caller.specs.declared.registers.Registers.{Registers}
 use Rattle.caller.specs.Step.{Caller, Unsound, Refused}
 use Rattle.caller.proofs.Asked.{asked_exactly_when, nowhere_exactly_when}
 use Rattle.caller.proofs.StepLaws.{refusal_given, step_exactly_when}
+use Rattle.caller.specs.declared.place.Needed.{Needed}
+use Rattle.caller.specs.declared.place.Needed.TheVariants.{Ra, Fp}
 use Rattle.explain.specs.Answers.{outcome_missing, outcome_looked, outcome_reason, outcome_why, number_missing, step_row, step_reason, step_why_answer}
 use Rattle.explain.specs.Why.{WhyFound, WhyNoRow, NearestBelow, NearestAbove, AllCovering, WhyNotFound, WhyLooked, WhyUnsound, WhyReason, WhyLookup, WhySigned, WhyCfaOutside, WhyCfaLow, WhyRaLost, NeededAt, WhyWordOutside, WhyCaller, WhyRow, WhyWindow, WhyAt, WhyNothingAsked, WhyStepReason, WhyStep}
+use Rattle.explain.specs.LookupReason.{LookupReason, LookupWhy}
+use Rattle.explain.specs.LookupReason as lookup
+use Rattle.explain.specs.StepReason.{StepReason, StepWhy}
+use Rattle.explain.specs.StepReason as step
 use Rattle.explain.specs.declared.why.Coverers.{Coverers}
 use Rattle.explain.specs.declared.why.FoundRow.{FoundRow}
-use Rattle.explain.specs.declared.why.LookupReason.{LookupReason}
-use Rattle.explain.specs.declared.why.LookupReason.TheVariants as lookup
-use Rattle.explain.specs.declared.why.LookupWhy.{LookupWhy}
 use Rattle.explain.specs.declared.why.Covered.{Covered}
-use Rattle.explain.specs.declared.why.Needed.{Needed}
-use Rattle.explain.specs.declared.why.Needed.TheVariants.{Ra, Fp}
 use Rattle.explain.specs.declared.why.NotFound.TheVariants as missing
 use Rattle.explain.specs.declared.why.NotFound.{NotFound}
 use Rattle.explain.specs.declared.why.RowReason.{RowReason}
 use Rattle.explain.specs.declared.why.RowReason.TheVariants as row
-use Rattle.explain.specs.declared.why.StepReason.{StepReason}
-use Rattle.explain.specs.declared.why.StepReason.TheVariants as step
-use Rattle.explain.specs.declared.why.StepWhy.{StepWhy}
 use Rattle.explain.proofs.RowLaws.{found_case, no_row_case}
 
 -- ---- which functions cover

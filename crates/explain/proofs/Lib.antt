@@ -12,4 +12,5 @@ pub mod NearestLaws
 pub mod PlaceLaws
 pub mod RowLaws
 pub mod SumLaws
+pub mod ToldLaws
 pub mod WholeLaws

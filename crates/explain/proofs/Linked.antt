@@ -206,7 +206,7 @@ module _ (look : Symbol → Entry) (in_numbers : numbers.Finds look) (in_section
   looked_explain_look = link-looked-explain_look.has look false here.looked_explain_look looked_by_cover (lookup.search_find look in_numbers in_section in_accept in_lookup)
 
   pub looked_explain_lookup : HasT look false link-looked-explain_lookup.code
-  looked_explain_lookup = link-looked-explain_lookup.has look false here.looked_explain_lookup (accept.section_check_check look in_numbers in_section in_accept) coverers_no_coverers looked_explain_look (section.header_layout_at look in_numbers in_section)
+  looked_explain_lookup = link-looked-explain_lookup.has look false here.looked_explain_lookup (accept.section_check_check look in_numbers in_section in_accept) looked_explain_look (section.header_layout_at look in_numbers in_section)
 
   pub stepped_fetched_at : HasT look false link-stepped-fetched_at.code
   stepped_fetched_at = link-stepped-fetched_at.has look false here.stepped_fetched_at

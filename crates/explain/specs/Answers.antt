@@ -7,18 +7,16 @@ use Rattle.caller.specs.Numbers.{unfound, signed, cfa_outside, cfa_low, ra_lost,
 use Rattle.caller.specs.declared.registers.Registers.{Registers}
 use Rattle.caller.specs.Step.{Step}
 use Rattle.caller.specs.Step.{Caller, Unsound, Refused}
+use Rattle.explain.specs.LookupReason.{LookupReason, LookupWhy}
+use Rattle.explain.specs.LookupReason as lookup
+use Rattle.explain.specs.StepReason.{StepReason, StepWhy}
+use Rattle.explain.specs.StepReason as step
 use Rattle.explain.specs.declared.why.Coverers.{Coverers}
 use Rattle.explain.specs.declared.why.FoundRow.{FoundRow}
-use Rattle.explain.specs.declared.why.LookupReason.{LookupReason}
-use Rattle.explain.specs.declared.why.LookupReason.TheVariants as lookup
-use Rattle.explain.specs.declared.why.LookupWhy.{LookupWhy}
 use Rattle.explain.specs.declared.why.NotFound.{NotFound}
 use Rattle.explain.specs.declared.why.NotFound.TheVariants as missing
 use Rattle.explain.specs.declared.why.RowReason.{RowReason}
 use Rattle.explain.specs.declared.why.RowReason.TheVariants as row
-use Rattle.explain.specs.declared.why.StepReason.{StepReason}
-use Rattle.explain.specs.declared.why.StepReason.TheVariants as step
-use Rattle.explain.specs.declared.why.StepWhy.{StepWhy}
 
 -- ---- a lookup
 

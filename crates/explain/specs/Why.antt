@@ -17,23 +17,21 @@ use Rattle.caller.specs.Frame.{base_value, caller_sp}
 use Rattle.caller.specs.Signature.{mask_of, clear}
 use Rattle.caller.specs.declared.registers.Process.{Process}
 use Rattle.caller.specs.declared.registers.Registers.{Registers}
+use Rattle.caller.specs.declared.place.Needed.{Needed}
+use Rattle.caller.specs.declared.place.Needed.TheVariants.{Ra, Fp}
+use Rattle.explain.specs.LookupReason.{LookupReason, LookupWhy}
+use Rattle.explain.specs.LookupReason as lookup
+use Rattle.explain.specs.StepReason.{StepReason, StepWhy}
+use Rattle.explain.specs.StepReason as step
 use Rattle.explain.specs.declared.sums.Sum.{Sum}
 use Rattle.explain.specs.declared.sums.Sum.TheVariants.{At, Below, Above}
 use Rattle.explain.specs.declared.why.Coverers.{Coverers}
 use Rattle.explain.specs.declared.why.FoundRow.{FoundRow}
-use Rattle.explain.specs.declared.why.LookupReason.{LookupReason}
-use Rattle.explain.specs.declared.why.LookupReason.TheVariants as lookup
-use Rattle.explain.specs.declared.why.LookupWhy.{LookupWhy}
 use Rattle.explain.specs.declared.why.Covered.{Covered}
-use Rattle.explain.specs.declared.why.Needed.{Needed}
-use Rattle.explain.specs.declared.why.Needed.TheVariants.{Ra, Fp}
 use Rattle.explain.specs.declared.why.NotFound.{NotFound}
 use Rattle.explain.specs.declared.why.NotFound.TheVariants as missing
 use Rattle.explain.specs.declared.why.RowReason.{RowReason}
 use Rattle.explain.specs.declared.why.RowReason.TheVariants as row
-use Rattle.explain.specs.declared.why.StepReason.{StepReason}
-use Rattle.explain.specs.declared.why.StepReason.TheVariants as step
-use Rattle.explain.specs.declared.why.StepWhy.{StepWhy}
 
 -- ---- rows
 

@@ -10,12 +10,13 @@ ghost use Rattle.accept.specs.Fault.{Sound};
 ghost use Rattle.lookup.specs.Computed.Covering.{covering, cover_of};
 ghost use Rattle.lookup.specs.Inner.Requires.{HeaderOf, AcceptedOf, RowAsked};
 ghost use Rattle.explain.specs.Computed.Lookup.{start_in, by_scan, in_function, alone_why, no_function_why, by_cover, looked_of, lookup_why};
+ghost use Rattle.explain.specs.Told.{lookup_why_told};
 
 use crate::coverers::{all_covering, no_coverers};
 use crate::nearby::{Side, nearest_at};
-use crate::why::{FoundRow, LookedWhy, LookupReason, LookupWhy, NotFound};
+use crate::why::{FoundRow, LookedWhy, NotFound};
 use accept::section_check::check;
-use accept::verdict::Verdict;
+use accept::verdict::Refusal;
 use lookup::look::reached_in;
 use lookup::rows::{Hit, scan_rows};
 use lookup::search::{Cover, find};
@@ -147,23 +148,13 @@ pub fn explain_look(section: &[u8], layout: Layout, address: u64, pc: u64) -> Lo
     by_cover(section, layout, cover, address, pc)
 }
 
-// On any bytes: a refused section explains itself by its number and index.
-pub fn explain_lookup(section: &[u8], address: u64, pc: u64) -> LookupWhy
-    ensures { result ≡ lookup_why section.now address pc }
+// On any bytes: a refused section explains itself by its rule and index.
+#[tactic(auto, using(accept::proofs::AcceptedLaws::accepted_laws), unfolding(crate::specs::Computed::Lookup::why_after, crate::specs::Computed::Lookup::lookup_why))]
+pub fn explain_lookup(section: &[u8], address: u64, pc: u64) -> Result<LookedWhy, Refusal>
+    ensures { lookup_why_told result ≡ lookup_why section.now address pc }
 {
     match check(section) {
-        Verdict::Refused { number, index } => LookupWhy {
-            reason: LookupReason::Unsound { number, index },
-            coverers: no_coverers(),
-        },
-        Verdict::Accepted => {
-            let why = explain_look(section, layout_at(section), address, pc);
-            let looked = why.looked;
-            let coverers = why.coverers;
-            LookupWhy {
-                reason: LookupReason::Accepted(looked),
-                coverers,
-            }
-        }
+        Err(refusal) => Err(refusal),
+        Ok(()) => Ok(explain_look(section, layout_at(section), address, pc)),
     }
 }

@@ -3,18 +3,16 @@ ghost use Rattle.std.specs.Prelude.{◌≡◌};
 ghost use Rattle.caller.specs.Frame.{asked_of};
 ghost use Rattle.lookup.specs.Inner.Requires.{AcceptedOf};
 ghost use Rattle.explain.specs.Computed.Step.{fetched_at, fetched_of, outside_why, caller_why, with_ra, from_words, from_high, from_cfa_why, from_row_why, by_looked, unlooked_why, asked_why, step_why};
+ghost use Rattle.explain.specs.Told.{step_reason_told, step_why_told};
 
 use crate::coverers::no_coverers;
 use crate::looked::explain_look;
-use crate::why::{LookedWhy, Needed, RowReason, StepReason, StepWhy};
+use crate::why::{LookedWhy, RowReason, StepReason, StepWhy};
 use accept::section_check::check;
-use accept::verdict::Verdict;
-use caller::place::{is_lost, spot_of, value_at};
-use caller::registers::{
-    Asked, Process, Registers, asked_of, base_value, caller_sp, cfa_of, is_low,
-};
+use caller::place::{Needed, is_lost, spot_of, value_at};
+use caller::registers::{Process, Registers, asked_of, base_value, caller_sp, cfa_of, is_low};
 use caller::signature::{clear, is_maskless, mask_of};
-use numbers::address::{Address, Word, window_fits};
+use numbers::address::window_fits;
 use numbers::field::Order;
 use numbers::offset::Offset;
 use section::header::{Layout, layout_at};
@@ -23,12 +21,12 @@ use section::shape::{Shape, shape_of};
 
 // What stands at a saved place; of a word that is not wholly inside the window, the offset that leads to it.
 #[tactic(auto, unfolding(crate::specs::Computed::Step::fetched_at))]
-fn fetched_at(offset: Offset, word: Word) -> Result<u64, Offset>
+fn fetched_at(offset: Offset, word: Option<u64>) -> Result<u64, Offset>
     ensures { result ≡ fetched_at offset word }
 {
     match word {
-        Word::Is(value) => Ok(value),
-        Word::Outside => Err(offset),
+        Some(value) => Ok(value),
+        None => Err(offset),
     }
 }
 
@@ -192,11 +190,11 @@ pub fn explain_row(
     let base = row.base;
     let offset = row.cfa;
     match cfa_of(registers, row) {
-        Address::Outside => RowReason::CfaOutside {
+        None => RowReason::CfaOutside {
             base: base_value(registers, base),
             offset,
         },
-        Address::At(cfa) => from_cfa(shape, stack, process, registers, row, cfa),
+        Some(cfa) => from_cfa(shape, stack, process, registers, row, cfa),
     }
 }
 
@@ -210,7 +208,7 @@ fn by_looked(
     pc: u64,
     why: LookedWhy,
 ) -> StepWhy
-    ensures { result ≡ by_looked shape stack.now process registers pc why }
+    ensures { step_why_told result ≡ by_looked shape stack.now process registers pc why }
 {
     let looked = why.looked;
     let coverers = why.coverers;
@@ -236,7 +234,7 @@ fn by_looked(
 // Without a lookup, nobody stands beside.
 #[tactic(auto, unfolding(crate::specs::Computed::Step::unlooked_why))]
 fn unlooked(reason: StepReason) -> StepWhy
-    ensures { result ≡ unlooked_why reason }
+    ensures { step_why_told result ≡ unlooked_why (step_reason_told reason) }
 {
     StepWhy {
         reason,
@@ -245,6 +243,7 @@ fn unlooked(reason: StepReason) -> StepWhy
 }
 
 // On a section that was checked before.
+#[tactic(auto, unfolding(crate::specs::Computed::Step::asked_why, section::specs::Meaning::shape_of))]
 fn explain_checked(
     section: &[u8],
     layout: Layout,
@@ -253,9 +252,9 @@ fn explain_checked(
     registers: Registers,
 ) -> StepWhy
     requires { AcceptedOf section.now layout }
-    ensures { result ≡ asked_why section.now stack.now process registers (asked_of registers) }
+    ensures { step_why_told result ≡ asked_why section.now stack.now process registers (asked_of registers) }
 {
-    let Asked::At(pc) = asked_of(registers) else {
+    let Some(pc) = asked_of(registers) else {
         return unlooked(StepReason::NothingAsked);
     };
     let why = explain_look(section, layout, process.section, pc);
@@ -264,8 +263,9 @@ fn explain_checked(
 }
 
 // On any bytes, stack and registers: 41 and 1 to 15 first.
+#[tactic(auto, using(accept::proofs::AcceptedLaws::accepted_laws), unfolding(crate::specs::Computed::Step::checked_why, crate::specs::Computed::Step::step_why))]
 pub fn explain_step(section: &[u8], stack: &[u8], process: Process, registers: Registers) -> StepWhy
-    ensures { result ≡ step_why section.now stack.now process registers }
+    ensures { step_why_told result ≡ step_why section.now stack.now process registers }
 {
     if !window_fits(stack, process.stack) {
         return unlooked(StepReason::Window {
@@ -274,9 +274,7 @@ pub fn explain_step(section: &[u8], stack: &[u8], process: Process, registers: R
         });
     }
     match check(section) {
-        Verdict::Refused { number, index } => unlooked(StepReason::Unsound { number, index }),
-        Verdict::Accepted => {
-            explain_checked(section, layout_at(section), stack, process, registers)
-        }
+        Err(refusal) => unlooked(StepReason::Unsound(refusal)),
+        Ok(()) => explain_checked(section, layout_at(section), stack, process, registers),
     }
 }

@@ -1,5 +1,7 @@
 // What an explanation says: the numbers that were compared, and nothing that does not follow from them. Each call has an enumeration of
 // its own, nested in that of the calls which rest on it.
+use accept::verdict::Refusal;
+use caller::place::Needed;
 use caller::registers::Registers;
 use numbers::offset::Offset;
 use section::row::Row;
@@ -48,33 +50,11 @@ pub struct Coverers {
     pub indexes: [u64; 16],
 }
 
-// What a lookup comes to in a section that is accepted.
+// Why a lookup gives its answer, in a section that is accepted.
 #[derive(Clone, Copy)]
 pub struct LookedWhy {
     pub looked: Result<FoundRow, NotFound>,
     pub coverers: Coverers,
-}
-
-// Why a lookup gives its answer.
-#[derive(Clone, Copy)]
-pub enum LookupReason {
-    // 1 to 15: the section breaks this rule first, at the entry with this index.
-    Unsound { number: u64, index: u64 },
-    // The section is accepted.
-    Accepted(Result<FoundRow, NotFound>),
-}
-
-#[derive(Clone, Copy)]
-pub struct LookupWhy {
-    pub reason: LookupReason,
-    pub coverers: Coverers,
-}
-
-// Which of the two words that a caller is read from.
-#[derive(Clone, Copy)]
-pub enum Needed {
-    Ra,
-    Fp,
 }
 
 // What a row comes to.
@@ -125,10 +105,7 @@ pub enum StepReason {
         length: u64,
     },
     // 1 to 15, as of a lookup.
-    Unsound {
-        number: u64,
-        index: u64,
-    },
+    Unsound(Refusal),
     // 21: PC is 0 without the mark, and nothing is looked up.
     NothingAsked,
     // 21 to 23, as of a lookup, with the PC looked up.

@@ -10,9 +10,9 @@ use Rattle.caller.specs.declared.registers.Registers.{Registers}
 use Rattle.caller.specs.Step.{Step}
 use Rattle.explain.specs.Answers.{outcome_why, step_why_answer}
 use Rattle.explain.specs.Why.{WhyLookup, WhyStep, SumIs}
+use Rattle.explain.specs.LookupReason.{LookupWhy}
+use Rattle.explain.specs.StepReason.{StepWhy}
 use Rattle.explain.specs.declared.sums.Sum.{Sum}
-use Rattle.explain.specs.declared.why.LookupWhy.{LookupWhy}
-use Rattle.explain.specs.declared.why.StepWhy.{StepWhy}
 use Rattle.explain.proofs.looked.explain_lookup.Kinds as lookup-kinds
 use Rattle.explain.proofs.looked.explain_lookup.Reads as lookup-reads
 use Rattle.explain.proofs.stepped.explain_step.Kinds as step-kinds

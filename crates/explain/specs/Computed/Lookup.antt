@@ -16,11 +16,11 @@ use Rattle.lookup.specs.declared.search.Cover.{Cover}
 use Rattle.lookup.specs.declared.search.Cover.TheVariants.{Nobody, One, Two}
 use Rattle.explain.specs.Computed.Coverers.{no_coverers, coverers_in}
 use Rattle.explain.specs.Computed.Nearest.{nearest_in}
+use Rattle.explain.specs.LookupReason.{LookupWhy}
+use Rattle.explain.specs.LookupReason as reason
 use Rattle.explain.specs.declared.nearby.Side.TheVariants.{Below, Above}
 use Rattle.explain.specs.declared.why.FoundRow.{FoundRow}
 use Rattle.explain.specs.declared.why.LookedWhy.{LookedWhy}
-use Rattle.explain.specs.declared.why.LookupReason.TheVariants as reason
-use Rattle.explain.specs.declared.why.LookupWhy.{LookupWhy}
 use Rattle.explain.specs.declared.why.NotFound.{NotFound}
 use Rattle.explain.specs.declared.why.NotFound.TheVariants as missing
 

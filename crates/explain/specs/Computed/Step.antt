@@ -18,18 +18,17 @@ use Rattle.caller.specs.Signature.{mask_of, clear}
 use Rattle.caller.specs.Computed.Caller.{is_maskless, is_low, spot_of, is_lost, value_of}
 use Rattle.caller.specs.declared.registers.Process.{Process}
 use Rattle.caller.specs.declared.registers.Registers.{Registers}
+use Rattle.caller.specs.declared.place.Needed.{Needed}
+use Rattle.caller.specs.declared.place.Needed.TheVariants.{Ra, Fp}
 use Rattle.explain.specs.Computed.Coverers.{no_coverers}
 use Rattle.explain.specs.Computed.Lookup.{looked_of}
+use Rattle.explain.specs.StepReason.{StepReason, StepWhy}
+use Rattle.explain.specs.StepReason as reason
 use Rattle.explain.specs.declared.why.FoundRow.{FoundRow}
 use Rattle.explain.specs.declared.why.LookedWhy.{LookedWhy}
-use Rattle.explain.specs.declared.why.Needed.{Needed}
-use Rattle.explain.specs.declared.why.Needed.TheVariants.{Ra, Fp}
 use Rattle.explain.specs.declared.why.NotFound.{NotFound}
 use Rattle.explain.specs.declared.why.RowReason.{RowReason}
 use Rattle.explain.specs.declared.why.RowReason.TheVariants.{Caller, Signed, CfaOutside, CfaLow, RaLost, WordOutside}
-use Rattle.explain.specs.declared.why.StepReason.{StepReason}
-use Rattle.explain.specs.declared.why.StepReason.TheVariants as reason
-use Rattle.explain.specs.declared.why.StepWhy.{StepWhy}
 
 -- ---- what stands at a saved place, or the offset of a word that is not wholly inside the window
 
