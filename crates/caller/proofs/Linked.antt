@@ -16,6 +16,7 @@ use Rattle.caller.proofs.TheLinks.caller-place-spot_at as link-place-spot_at
 use Rattle.caller.proofs.TheLinks.caller-place-spot_of as link-place-spot_of
 use Rattle.caller.proofs.TheLinks.caller-place-value_at as link-place-value_at
 use Rattle.caller.proofs.TheLinks.caller-place-values_at as link-place-values_at
+use Rattle.caller.proofs.TheLinks.caller-registers-FrameCause-number as link-registers-FrameCause-number
 use Rattle.caller.proofs.TheLinks.caller-registers-Registers-refuse as link-registers-Registers-refuse
 use Rattle.caller.proofs.TheLinks.caller-registers-caller_sp as link-registers-caller_sp
 use Rattle.caller.proofs.TheLinks.caller-signature-clear as link-signature-clear
@@ -46,6 +47,7 @@ entries more =
     ("caller::place::spot_of", link-place-spot_of.entry) ∷
     ("caller::place::value_at", link-place-value_at.entry) ∷
     ("caller::place::values_at", link-place-values_at.entry) ∷
+    ("caller::registers::FrameCause::number", link-registers-FrameCause-number.entry) ∷
     ("caller::registers::Registers::refuse", link-registers-Registers-refuse.entry) ∷
     ("caller::registers::caller_sp", link-registers-caller_sp.entry) ∷
     ("caller::signature::clear", link-signature-clear.entry) ∷
@@ -76,6 +78,7 @@ pub record Finds (look : Symbol → Entry) : Type 0 where
   pub place_spot_of : look "caller::place::spot_of" ≡ link-place-spot_of.entry
   pub place_value_at : look "caller::place::value_at" ≡ link-place-value_at.entry
   pub place_values_at : look "caller::place::values_at" ≡ link-place-values_at.entry
+  pub registers_FrameCause_number : look "caller::registers::FrameCause::number" ≡ link-registers-FrameCause-number.entry
   pub registers_Registers_refuse : look "caller::registers::Registers::refuse" ≡ link-registers-Registers-refuse.entry
   pub registers_caller_sp : look "caller::registers::caller_sp" ≡ link-registers-caller_sp.entry
   pub signature_clear : look "caller::signature::clear" ≡ link-signature-clear.entry
@@ -113,6 +116,9 @@ module _ (look : Symbol → Entry) (in_numbers : numbers.Finds look) (in_section
 
   pub place_values_at : HasT look false link-place-values_at.code
   place_values_at = link-place-values_at.has look false here.place_values_at place_value_at
+
+  pub registers_FrameCause_number : HasT look false link-registers-FrameCause-number.code
+  registers_FrameCause_number = link-registers-FrameCause-number.has look false here.registers_FrameCause_number
 
   pub registers_Registers_refuse : HasT look false link-registers-Registers-refuse.code
   registers_Registers_refuse = link-registers-Registers-refuse.has look false here.registers_Registers_refuse
@@ -166,13 +172,13 @@ module _ (look : Symbol → Entry) (in_numbers : numbers.Finds look) (in_section
   registers_Registers_step_checked = link-registers-Registers-step_checked.has look false here.registers_Registers_step_checked registers_Registers_from_outcome registers_Registers_refuse registers_asked_of (lookup.look_look look in_numbers in_section in_accept in_lookup) (section.shape_shape_of look in_numbers in_section)
 
   pub registers_Registers_step : HasT look false link-registers-Registers-step.code
-  registers_Registers_step = link-registers-Registers-step.has look false here.registers_Registers_step (accept.section_check_check look in_numbers in_section in_accept) registers_Registers_refuse registers_Registers_step_checked (numbers.address_window_fits look in_numbers) (section.header_layout_at look in_numbers in_section)
+  registers_Registers_step = link-registers-Registers-step.has look false here.registers_Registers_step (accept.section_check_check look in_numbers in_section in_accept) registers_Registers_step_checked (numbers.address_window_fits look in_numbers) (section.header_layout_at look in_numbers in_section)
 
   pub registers_StepCause_index : HasT look false link-registers-StepCause-index.code
   registers_StepCause_index = link-registers-StepCause-index.has look false here.registers_StepCause_index
 
   pub registers_StepCause_number : HasT look false link-registers-StepCause-number.code
-  registers_StepCause_number = link-registers-StepCause-number.has look false here.registers_StepCause_number (accept.verdict_Rule_number look in_numbers in_section in_accept)
+  registers_StepCause_number = link-registers-StepCause-number.has look false here.registers_StepCause_number (accept.verdict_Rule_number look in_numbers in_section in_accept) registers_FrameCause_number
 
   pub registers_cfa_of_sp : HasT look false link-registers-cfa_of_sp.code
   registers_cfa_of_sp = link-registers-cfa_of_sp.has look false here.registers_cfa_of_sp

@@ -3,41 +3,47 @@ use Rattle.std.specs.Prelude.{ℕ, Result, Ok, Err}
 use Rattle.accept.specs.Given.{number_of_rule}
 use Rattle.caller.specs.Step.{Step, Caller, Refused}
 use Rattle.caller.specs.Step as step
+use Rattle.caller.specs.declared.registers.FrameCause.{FrameCause}
+use Rattle.caller.specs.declared.registers.FrameCause.TheVariants.{NoFunction, Dispute, NoRow, Signed, CfaOutside, CfaLow, RaLost, WordOutside}
+use Rattle.caller.specs.declared.registers.FrameRefusal.{FrameRefusal}
 use Rattle.caller.specs.declared.registers.Registers.{Registers}
 use Rattle.caller.specs.declared.registers.StepCause.{StepCause}
-use Rattle.caller.specs.declared.registers.StepCause.TheVariants.{Window, Unsound, NoFunction, Dispute, NoRow, Signed, CfaOutside, CfaLow, RaLost, WordOutside}
+use Rattle.caller.specs.declared.registers.StepCause.TheVariants.{Window, Unsound, Frame}
 use Rattle.caller.specs.declared.registers.StepRefusal.{StepRefusal}
 
--- the number of a refusal
+-- ---- of a frame, in a section that was accepted
+
+abbrev pub frame_number : FrameCause → ℕ
+frame_number NoFunction = 21
+frame_number Dispute = 22
+frame_number NoRow = 23
+frame_number Signed = 24
+frame_number CfaOutside = 25
+frame_number CfaLow = 26
+frame_number RaLost = 27
+frame_number WordOutside = 28
+
+abbrev pub frame_told : Result Registers FrameRefusal → Step
+frame_told (Ok registers) = Caller registers
+frame_told (Err refusal) = Refused refusal.old (frame_number refusal.cause)
+
+-- ---- of any bytes
+
 abbrev pub cause_number : StepCause → ℕ
 cause_number Window = 41
 cause_number (Unsound refusal) = number_of_rule refusal.rule
-cause_number NoFunction = 21
-cause_number Dispute = 22
-cause_number NoRow = 23
-cause_number Signed = 24
-cause_number CfaOutside = 25
-cause_number CfaLow = 26
-cause_number RaLost = 27
-cause_number WordOutside = 28
+cause_number (Frame cause) = frame_number cause
 
 -- the index that it carries: the entry's for 1 to 15
 abbrev pub cause_index : StepCause → ℕ
+cause_index Window = 0
 cause_index (Unsound refusal) = refusal.index
-cause_index cause = 0
+cause_index (Frame cause) = 0
 
--- a refusal with the old registers, and with the entry's index for 1 to 15
 abbrev pub refusal_told : Registers → StepCause → Step
-refusal_told old (Unsound refusal) = step.Unsound old (number_of_rule refusal.rule) refusal.index
 refusal_told old Window = Refused old (cause_number Window)
-refusal_told old NoFunction = Refused old (cause_number NoFunction)
-refusal_told old Dispute = Refused old (cause_number Dispute)
-refusal_told old NoRow = Refused old (cause_number NoRow)
-refusal_told old Signed = Refused old (cause_number Signed)
-refusal_told old CfaOutside = Refused old (cause_number CfaOutside)
-refusal_told old CfaLow = Refused old (cause_number CfaLow)
-refusal_told old RaLost = Refused old (cause_number RaLost)
-refusal_told old WordOutside = Refused old (cause_number WordOutside)
+refusal_told old (Unsound refusal) = step.Unsound old (number_of_rule refusal.rule) refusal.index
+refusal_told old (Frame cause) = Refused old (frame_number cause)
 
 abbrev pub step_told : Result Registers StepRefusal → Step
 step_told (Ok registers) = Caller registers

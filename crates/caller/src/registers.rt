@@ -3,7 +3,7 @@ ghost use Rattle.std.specs.Prelude.{◌≡◌};
 ghost use Rattle.numbers.specs.Computed.Address.{in_memory};
 ghost use Rattle.caller.specs.Frame.{just_before, asked_of, base_value, cfa_of, caller_sp, cfa_of_sp};
 ghost use Rattle.caller.specs.Computed.Caller.{is_low};
-ghost use Rattle.caller.specs.Told.{cause_number, cause_index};
+ghost use Rattle.caller.specs.Told.{frame_number, cause_number, cause_index};
 
 use accept::verdict::Refusal;
 use numbers::address::address_of;
@@ -30,13 +30,9 @@ pub struct Process {
     pub mask: u64,
 }
 
-// Why there is no caller.
+// Why a frame has no caller.
 #[derive(Clone, Copy)]
-pub enum StepCause {
-    // 41: the stack window ends past the last address.
-    Window,
-    // 1 to 15: the section breaks a rule.
-    Unsound(Refusal),
+pub enum FrameCause {
     // 21: no function covers the PC, or there is none to look up.
     NoFunction,
     // 22: two or more functions cover it.
@@ -55,23 +51,55 @@ pub enum StepCause {
     WordOutside,
 }
 
+// A refusal hands the old registers back. They stand first, so that they are not moved about.
+#[derive(Clone, Copy)]
+pub struct FrameRefusal {
+    pub old: Registers,
+    pub cause: FrameCause,
+}
+
+// Why a step on any bytes is refused.
+#[derive(Clone, Copy)]
+pub enum StepCause {
+    // 41: the stack window ends past the last address.
+    Window,
+    // 1 to 15: the section breaks a rule.
+    Unsound(Refusal),
+    // 21 to 28.
+    Frame(FrameCause),
+}
+
+#[derive(Clone, Copy)]
+pub struct StepRefusal {
+    pub old: Registers,
+    pub cause: StepCause,
+}
+
+impl FrameCause {
+    pub fn number(self) -> u64
+        ensures { result ≡ frame_number self }
+    {
+        match self {
+            FrameCause::NoFunction => 21,
+            FrameCause::Dispute => 22,
+            FrameCause::NoRow => 23,
+            FrameCause::Signed => 24,
+            FrameCause::CfaOutside => 25,
+            FrameCause::CfaLow => 26,
+            FrameCause::RaLost => 27,
+            FrameCause::WordOutside => 28,
+        }
+    }
+}
+
 impl StepCause {
-    // The number that a step is refused with.
-    #[tactic(auto, unfolding(accept::specs::Given::number_of_rule))]
     pub fn number(self) -> u64
         ensures { result ≡ cause_number self }
     {
         match self {
             StepCause::Window => 41,
             StepCause::Unsound(refusal) => refusal.rule.number(),
-            StepCause::NoFunction => 21,
-            StepCause::Dispute => 22,
-            StepCause::NoRow => 23,
-            StepCause::Signed => 24,
-            StepCause::CfaOutside => 25,
-            StepCause::CfaLow => 26,
-            StepCause::RaLost => 27,
-            StepCause::WordOutside => 28,
+            StepCause::Frame(cause) => cause.number(),
         }
     }
 
@@ -80,17 +108,11 @@ impl StepCause {
         ensures { result ≡ cause_index self }
     {
         match self {
+            StepCause::Window => 0,
             StepCause::Unsound(refusal) => refusal.index,
-            _ => 0,
+            StepCause::Frame(_) => 0,
         }
     }
-}
-
-// A refused step hands the old registers back. They stand first, so that they are not moved about.
-#[derive(Clone, Copy)]
-pub struct StepRefusal {
-    pub old: Registers,
-    pub cause: StepCause,
 }
 
 // One before a PC. A return address stands behind its call, and behind the function where the call is the function's last instruction;

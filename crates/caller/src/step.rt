@@ -7,11 +7,13 @@ ghost use Rattle.lookup.specs.Computed.Answers.{look_in};
 ghost use Rattle.lookup.specs.Inner.Requires.{AcceptedOf};
 ghost use Rattle.lookup.specs.Told.{outcome_told};
 ghost use Rattle.caller.specs.Computed.Caller.{with_values, from_spots, from_cfa, from_row, from_finding, step_of, step_in};
-ghost use Rattle.caller.specs.Told.{refusal_told, step_told};
+ghost use Rattle.caller.specs.Step.{Refused};
+ghost use Rattle.caller.specs.Told.{frame_number, frame_told, step_told};
 
 use crate::place::{Needed, Spot, Values, is_lost, spot_of, values_at};
 use crate::registers::{
-    Process, Registers, StepCause, StepRefusal, asked_of, caller_sp, cfa_of, is_low,
+    FrameCause, FrameRefusal, Process, Registers, StepCause, StepRefusal, asked_of, caller_sp,
+    cfa_of, is_low,
 };
 use crate::signature::{clear, is_maskless, mask_of};
 use accept::section_check::check;
@@ -24,10 +26,10 @@ use section::shape::{Shape, shape_of};
 
 impl Registers {
     // No caller, and the old registers.
-    fn refuse(self, cause: StepCause) -> Result<Registers, StepRefusal>
-        ensures { step_told result ≡ refusal_told self cause }
+    fn refuse(self, cause: FrameCause) -> Result<Registers, FrameRefusal>
+        ensures { frame_told result ≡ Refused self (frame_number cause) }
     {
-        Err(StepRefusal { old: self, cause })
+        Err(FrameRefusal { old: self, cause })
     }
 
     // 28, or the caller: its PC is RA without the bits of the mask, wherever RA came from.
@@ -37,12 +39,12 @@ impl Registers {
         mask: u64,
         cfa: u64,
         values: Result<Values, Needed>,
-    ) -> Result<Registers, StepRefusal>
-        ensures { step_told result ≡ with_values self mask cfa values }
+    ) -> Result<Registers, FrameRefusal>
+        ensures { frame_told result ≡ with_values self mask cfa values }
     {
         let lr = self.lr;
         match values {
-            Err(_) => self.refuse(StepCause::WordOutside),
+            Err(_) => self.refuse(FrameCause::WordOutside),
             Ok(values) => Ok(Registers {
                 pc: clear(mask, values.ra),
                 sp: caller_sp(cfa),
@@ -64,11 +66,11 @@ impl Registers {
         cfa: u64,
         ra: Spot,
         fp: Spot,
-    ) -> Result<Registers, StepRefusal>
-        ensures { step_told result ≡ from_spots shape stack.now process self mask cfa ra fp }
+    ) -> Result<Registers, FrameRefusal>
+        ensures { frame_told result ≡ from_spots shape stack.now process self mask cfa ra fp }
     {
         if is_lost(self, ra) {
-            return self.refuse(StepCause::RaLost);
+            return self.refuse(FrameCause::RaLost);
         }
         let order = shape.order;
         self.with_values(
@@ -87,11 +89,11 @@ impl Registers {
         process: Process,
         row: Row,
         cfa: u64,
-    ) -> Result<Registers, StepRefusal>
-        ensures { step_told result ≡ from_cfa shape stack.now process self row cfa }
+    ) -> Result<Registers, FrameRefusal>
+        ensures { frame_told result ≡ from_cfa shape stack.now process self row cfa }
     {
         if is_low(self, caller_sp(cfa)) {
-            return self.refuse(StepCause::CfaLow);
+            return self.refuse(FrameCause::CfaLow);
         }
         let ra = row.ra;
         let fp = row.fp;
@@ -115,14 +117,14 @@ impl Registers {
         stack: &[u8],
         process: Process,
         row: Row,
-    ) -> Result<Registers, StepRefusal>
-        ensures { step_told result ≡ from_row shape stack.now process self row }
+    ) -> Result<Registers, FrameRefusal>
+        ensures { frame_told result ≡ from_row shape stack.now process self row }
     {
         if is_maskless(shape, row, process) {
-            return self.refuse(StepCause::Signed);
+            return self.refuse(FrameCause::Signed);
         }
         match cfa_of(self, row) {
-            None => self.refuse(StepCause::CfaOutside),
+            None => self.refuse(FrameCause::CfaOutside),
             Some(cfa) => self.from_cfa(shape, stack, process, row, cfa),
         }
     }
@@ -135,14 +137,14 @@ impl Registers {
         stack: &[u8],
         process: Process,
         outcome: Result<Found, Unfound>,
-    ) -> Result<Registers, StepRefusal>
-        ensures { step_told result ≡ from_finding shape stack.now process self (finding_of (outcome_told outcome)) }
+    ) -> Result<Registers, FrameRefusal>
+        ensures { frame_told result ≡ from_finding shape stack.now process self (finding_of (outcome_told outcome)) }
     {
         match outcome {
             Ok(found) => self.from_row(shape, stack, process, found.row),
-            Err(Unfound::NoFunction) => self.refuse(StepCause::NoFunction),
-            Err(Unfound::Dispute { .. }) => self.refuse(StepCause::Dispute),
-            Err(Unfound::NoRow { .. }) => self.refuse(StepCause::NoRow),
+            Err(Unfound::NoFunction) => self.refuse(FrameCause::NoFunction),
+            Err(Unfound::Dispute { .. }) => self.refuse(FrameCause::Dispute),
+            Err(Unfound::NoRow { .. }) => self.refuse(FrameCause::NoRow),
         }
     }
 
@@ -153,12 +155,12 @@ impl Registers {
         layout: Layout,
         stack: &[u8],
         process: Process,
-    ) -> Result<Registers, StepRefusal>
+    ) -> Result<Registers, FrameRefusal>
         requires { AcceptedOf section.now layout }
-        ensures { step_told result ≡ step_of (shape_of section.now) (look_in section.now process.section) stack.now process self }
+        ensures { frame_told result ≡ step_of (shape_of section.now) (look_in section.now process.section) stack.now process self }
     {
         let Some(pc) = asked_of(self) else {
-            return self.refuse(StepCause::NoFunction);
+            return self.refuse(FrameCause::NoFunction);
         };
         let answer = look(section, layout, process.section, pc);
         let outcome = answer.outcome;
@@ -176,11 +178,23 @@ impl Registers {
         ensures { step_told result ≡ step_in section.now stack.now process self }
     {
         if !window_fits(stack, process.stack) {
-            return self.refuse(StepCause::Window);
+            return Err(StepRefusal {
+                old: self,
+                cause: StepCause::Window,
+            });
         }
-        match check(section) {
-            Err(refusal) => self.refuse(StepCause::Unsound(refusal)),
-            Ok(()) => self.step_checked(section, layout_at(section), stack, process),
+        if let Err(refusal) = check(section) {
+            return Err(StepRefusal {
+                old: self,
+                cause: StepCause::Unsound(refusal),
+            });
+        }
+        match self.step_checked(section, layout_at(section), stack, process) {
+            Ok(caller) => Ok(caller),
+            Err(refusal) => Err(StepRefusal {
+                old: refusal.old,
+                cause: StepCause::Frame(refusal.cause),
+            }),
         }
     }
 }

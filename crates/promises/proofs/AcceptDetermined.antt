@@ -15,6 +15,8 @@ use Rattle.accept.proofs.row_check.check_rows.Kinds as check_rows-kinds
 use Rattle.accept.proofs.row_check.check_rows.Reads as check_rows-reads
 use Rattle.accept.proofs.section_check.check.Kinds as check-kinds
 use Rattle.accept.proofs.section_check.check.Reads as check-reads
+use Rattle.accept.proofs.ToldLaws.{fault_told_once}
+use Rattle.accept.proofs.ToldLaws.{verdict_told_once}
 use Rattle.promises.specs.Determined.{Determined}
 
 pub wrong_entry_info_determined : Determined wrong_entry_info-kinds.ps wrong_entry_info-kinds.r wrong_entry_info-reads.Learnt
@@ -24,16 +26,16 @@ pub wrong_repeat_determined : Determined wrong_repeat-kinds.ps wrong_repeat-kind
 wrong_repeat_determined κs a z z' w w' p q = (p ∙ sym q, refl)
 
 pub check_entry_determined : Determined check_entry-kinds.ps check_entry-kinds.r check_entry-reads.Learnt
-check_entry_determined κs a z z' w w' p q = (p ∙ sym q, refl)
+check_entry_determined κs a z z' w w' p q = (fault_told_once _ _ (p ∙ sym q), refl)
 
 pub check_header_determined : Determined check_header-kinds.ps check_header-kinds.r check_header-reads.Learnt
-check_header_determined κs a z z' w w' p q = (p ∙ sym q, refl)
+check_header_determined κs a z z' w w' p q = (fault_told_once _ _ (p ∙ sym q), refl)
 
 pub check_row_determined : Determined check_row-kinds.ps check_row-kinds.r check_row-reads.Learnt
-check_row_determined κs a z z' w w' p q = (p ∙ sym q, refl)
+check_row_determined κs a z z' w w' p q = (fault_told_once _ _ (p ∙ sym q), refl)
 
 pub check_rows_determined : Determined check_rows-kinds.ps check_rows-kinds.r check_rows-reads.Learnt
-check_rows_determined κs a z z' w w' p q = (p ∙ sym q, refl)
+check_rows_determined κs a z z' w w' p q = (fault_told_once _ _ (p ∙ sym q), refl)
 
 pub check_determined : Determined check-kinds.ps check-kinds.r check-reads.Learnt
-check_determined κs a z z' w w' p q = (p ∙ sym q, refl)
+check_determined κs a z z' w w' p q = (verdict_told_once _ _ (p ∙ sym q), refl)

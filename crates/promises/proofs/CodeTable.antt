@@ -24,12 +24,11 @@ table_has_numbers more =
       address_address_of = refl;
       address_window_fits = refl;
       field_digit_at = refl;
-      field_in8 = refl;
+      field_bytes_at = refl;
       field_u64_at = refl;
       address_word_at = refl;
-      field_in2 = refl;
+      field_OrderPartialEq_eq = refl;
       field_u16_at = refl;
-      field_in4 = refl;
       field_u32_at = refl;
       field_u8_at = refl;
       field_field_at = refl;
@@ -88,7 +87,6 @@ table_has_accept more =
       row_check_walk_rows = refl;
       row_check_check_rows = refl;
       entry_check_check_entry = refl;
-      header_check_same_order = refl;
       header_check_wrong_abi = refl;
       header_check_same_offset = refl;
       header_check_wrong_fixed = refl;
@@ -102,6 +100,8 @@ table_has_accept more =
       section_check_check_each = refl;
       section_check_check_entries = refl;
       section_check_check = refl;
+      verdict_Rule_number = refl;
+      verdict_RulePartialEq_eq = refl;
     }
 
 pub table_has_listing : (more : Entries) → listing.Finds (in_entries (table more))
@@ -173,7 +173,7 @@ pub table_has_ask : (more : Entries) → ask.Finds (in_entries (table more))
 table_has_ask more =
     record {
       land_with_sought = refl;
-      rows_is_wrong = refl;
+      rows_check_own = refl;
       rows_sought_at = refl;
       rows_stop_after = refl;
       rows_walk_rows = refl;
@@ -193,6 +193,8 @@ table_has_caller more =
       place_spot_of = refl;
       place_value_at = refl;
       place_values_at = refl;
+      registers_FrameCause_number = refl;
+      registers_Registers_refuse = refl;
       registers_caller_sp = refl;
       signature_clear = refl;
       registers_Registers_with_values = refl;
@@ -210,14 +212,16 @@ table_has_caller more =
       registers_asked_of = refl;
       registers_Registers_step_checked = refl;
       registers_Registers_step = refl;
+      registers_StepCause_index = refl;
+      registers_StepCause_number = refl;
       registers_cfa_of_sp = refl;
     }
 
 pub table_has_trace : (more : Entries) → trace.Finds (in_entries (table more))
 table_has_trace more =
     record {
+      answer_DoorFault_number = refl;
       answer_frame_of = refl;
-      answer_number_of = refl;
       answer_write_frame = refl;
       walk_in_force = refl;
       walk_door_fault = refl;
@@ -281,6 +285,7 @@ table_has_suntimpani more =
       flat_place_offset = refl;
       flat_flat_row = refl;
       asks_flat_asked = refl;
+      flat_flat_outcome = refl;
       flat_flat_answer = refl;
       flat_flat_verdict = refl;
       functions_kind_number = refl;
@@ -302,6 +307,7 @@ table_has_suntimpani more =
       suntimpani_lookup = refl;
       suntimpani_next_row = refl;
       suntimpani_rows_of = refl;
+      walks_ending_number = refl;
       walks_flat_traced = refl;
       suntimpani_trace = refl;
     }

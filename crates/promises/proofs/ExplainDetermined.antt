@@ -17,6 +17,8 @@ use Rattle.explain.proofs.stepped.explain_step.Kinds as explain_step-kinds
 use Rattle.explain.proofs.stepped.explain_step.Reads as explain_step-reads
 use Rattle.explain.proofs.sums.sum_of.Kinds as sum_of-kinds
 use Rattle.explain.proofs.sums.sum_of.Reads as sum_of-reads
+use Rattle.explain.proofs.ToldLaws.{lookup_why_told_once}
+use Rattle.explain.proofs.ToldLaws.{step_why_told_once}
 use Rattle.promises.specs.Determined.{Determined}
 
 pub no_coverers_determined : Determined no_coverers-kinds.ps no_coverers-kinds.r no_coverers-reads.Learnt
@@ -32,13 +34,13 @@ pub explain_look_determined : Determined explain_look-kinds.ps explain_look-kind
 explain_look_determined κs a z z' w w' p q = (p ∙ sym q, refl)
 
 pub explain_lookup_determined : Determined explain_lookup-kinds.ps explain_lookup-kinds.r explain_lookup-reads.Learnt
-explain_lookup_determined κs a z z' w w' p q = (p ∙ sym q, refl)
+explain_lookup_determined κs a z z' w w' p q = (lookup_why_told_once _ _ (p ∙ sym q), refl)
 
 pub explain_row_determined : Determined explain_row-kinds.ps explain_row-kinds.r explain_row-reads.Learnt
 explain_row_determined κs a z z' w w' p q = (p ∙ sym q, refl)
 
 pub explain_step_determined : Determined explain_step-kinds.ps explain_step-kinds.r explain_step-reads.Learnt
-explain_step_determined κs a z z' w w' p q = (p ∙ sym q, refl)
+explain_step_determined κs a z z' w w' p q = (step_why_told_once _ _ (p ∙ sym q), refl)
 
 pub sum_of_determined : Determined sum_of-kinds.ps sum_of-kinds.r sum_of-reads.Learnt
 sum_of_determined κs a z z' w w' p q = (p ∙ sym q, refl)

@@ -19,16 +19,18 @@ use Rattle.lookup.proofs.search.land.Kinds as land-kinds
 use Rattle.lookup.proofs.search.land.Reads as land-reads
 use Rattle.lookup.proofs.table.entry_in.Kinds as entry_in-kinds
 use Rattle.lookup.proofs.table.entry_in.Reads as entry_in-reads
+use Rattle.lookup.proofs.ToldLaws.{answer_told_once}
+use Rattle.lookup.proofs.ToldLaws.{lookup_told_once}
 use Rattle.promises.specs.Determined.{Determined}
 
 pub block_offset_determined : Determined block_offset-kinds.ps block_offset-kinds.r block_offset-reads.Learnt
 block_offset_determined κs a z z' w w' p q = (p ∙ sym q, refl)
 
 pub look_determined : Determined look-kinds.ps look-kinds.r look-reads.Learnt
-look_determined κs a z z' w w' p q = (p ∙ sym q, refl)
+look_determined κs a z z' w w' p q = (answer_told_once _ _ (p ∙ sym q), refl)
 
 pub lookup_determined : Determined lookup-kinds.ps lookup-kinds.r lookup-reads.Learnt
-lookup_determined κs a z z' w w' p q = (p ∙ sym q, refl)
+lookup_determined κs a z z' w w' p q = (lookup_told_once _ _ (p ∙ sym q), refl)
 
 pub reached_in_determined : Determined reached_in-kinds.ps reached_in-kinds.r reached_in-reads.Learnt
 reached_in_determined κs a z z' w w' p q = (p ∙ sym q, refl)

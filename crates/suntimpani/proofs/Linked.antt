@@ -209,7 +209,7 @@ module _ (look : Symbol → Entry) (in_numbers : numbers.Finds look) (in_section
   suntimpani_rows_of = link-suntimpani_rows_of.has look false here.suntimpani_rows_of (listing.function_function_at look in_numbers in_section in_accept in_listing) (listing.reader_place_in look in_numbers in_section in_accept in_listing) rows_flat_place
 
   pub walks_ending_number : HasT look false link-walks-ending_number.code
-  walks_ending_number = link-walks-ending_number.has look false here.walks_ending_number (caller.registers_StepCause_number look in_numbers in_section in_accept in_lookup in_caller)
+  walks_ending_number = link-walks-ending_number.has look false here.walks_ending_number (caller.registers_FrameCause_number look in_numbers in_section in_accept in_lookup in_caller)
 
   pub walks_flat_traced : HasT look false link-walks-flat_traced.code
   walks_flat_traced = link-walks-flat_traced.has look false here.walks_flat_traced (accept.verdict_Rule_number look in_numbers in_section in_accept) walks_ending_number (trace.answer_DoorFault_number look in_numbers in_section in_accept in_lookup in_caller in_trace)

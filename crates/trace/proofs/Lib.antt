@@ -8,5 +8,6 @@ pub mod GoingLaws
 pub mod Linked
 pub mod NumberLaws
 pub mod Signed
+pub mod ToldLaws
 pub mod TraceLaws
 pub mod WalkLaws

@@ -2,7 +2,7 @@
 use Rattle.std.specs.Prelude.{ℕ, Result, Ok, Err}
 use Rattle.accept.specs.Fault.{Fault, Sound, Breaks}
 use Rattle.accept.specs.Given.{number_of_rule}
-use Rattle.caller.specs.Told.{cause_number}
+use Rattle.caller.specs.Told.{frame_number}
 use Rattle.trace.specs.Ending.{Ending, Traced}
 use Rattle.trace.specs.Ending as ending
 use Rattle.trace.specs.declared.answer.DoorFault.{DoorFault}
@@ -25,7 +25,7 @@ door_told (Err fault) = Breaks (door_number fault)
 abbrev pub ending_told : code.Ending → Ending
 ending_told Outermost = ending.Outermost
 ending_told Full = ending.Full
-ending_told (Refused cause) = ending.Refused (cause_number cause)
+ending_told (Refused cause) = ending.Refused (frame_number cause)
 
 abbrev pub traced_told : answer.Traced → Traced
 traced_told traced = record { ending = ending_told traced.ending; frames = traced.frames }

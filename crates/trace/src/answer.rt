@@ -5,7 +5,7 @@ ghost use Rattle.trace.specs.Frames.{frame_of, words_of};
 ghost use Rattle.trace.specs.Told.{door_number};
 
 use accept::verdict::Refusal;
-use caller::registers::{Registers, StepCause, cfa_of_sp};
+use caller::registers::{FrameCause, Registers, cfa_of_sp};
 
 // One frame: the three words that are written of it.
 #[derive(Clone, Copy)]
@@ -23,7 +23,7 @@ pub enum Ending {
     // 31: the limit is full.
     Full,
     // 21 to 28: the next step is refused.
-    Refused(StepCause),
+    Refused(FrameCause),
 }
 
 // The ending, and how many frames were written.

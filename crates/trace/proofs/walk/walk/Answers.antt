@@ -5,8 +5,8 @@ use mathlib.Core.Path.{◌≡◌, sym, ◌∙◌, ap}
 use Prim.Native.Nat.{◌+◌, ◌-◌, ◌*◌, ◌≤◌, ◌<◌}
 use lib.ListN.{length}
 use Rattle.caller.proofs.NumberLaws.{caller_unmarked, caller_keeps_lr}
-use Rattle.caller.proofs.ToldLaws.{apart, told_number}
-use Rattle.trace.specs.Ending.{Outermost, Full, Refused}
+use Rattle.caller.specs.Numbers.{step_number}
+use Rattle.trace.specs.Ending.{Outermost, Full}
 use Rattle.trace.specs.Frames.{frame_of, words_of, traced_as}
 use Rattle.trace.specs.Computed.Trace.{checked_walk}
 use Rattle.trace.specs.Inner.Writing.{next_from, put}
@@ -25,12 +25,9 @@ more c = omega (arith, c.loop-frames-test.true)
 
 -- ---- the step is refused
 pub returns-in-Err : goal.returns-in-Err
-unfolding checked_walk
+unfolding checked_walk step_number
 returns-in-Err c =
-    ap (λ n. traced_as (record { ending = Refused n; frames = c.loop-frames.frames }) c.loop-frames.buffer)
-    (told_number c.in-Err.refusal.old c.in-Err.refusal.cause)
-    ∙ going_refused c.loop-frames.invariant (more (goal.at.returns-in-Err c).In-loop-frames) _ (sym c.in-Err.ensures)
-    (λ caller e. apart caller _ _ (sym e))
+    going_refused c.loop-frames.invariant (more (goal.at.returns-in-Err c).In-loop-frames) _ (sym c.in-Err.ensures) (λ caller e. cc)
 
 -- ---- the step yields a frame
 -- the turn that a step was made in has room for its frame
