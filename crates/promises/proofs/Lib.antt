@@ -31,6 +31,7 @@ pub mod OrderLaws
 pub mod PassedRowsKept
 pub mod PassedRowsOfS
 pub mod Ran
+pub mod Replies
 pub mod RequiresMet
 pub mod ReturnByLaws
 pub mod ReturnLaws

@@ -12,6 +12,7 @@ use lib.ListN.{length, drop}
 use lib.Seq.{drop-nil}
 use borrow.Author.Tests.{ltb-true, ltb-false, lt-ltb}
 use denote.Ref.{Bor}
+use Rattle.section.specs.declared.row.Row.{Row}
 use Rattle.std.specs.Prelude.{Option, None}
 use Rattle.section.specs.Meaning.{function_in, functions_of}
 use Rattle.accept.specs.Given.{number_of_rule}

@@ -23,8 +23,9 @@ use Rattle.suntimpani.specs.declared.flat.AnswerInC.{AnswerInC}
 use Rattle.suntimpani.proofs.suntimpani_ask.Kinds as flat-kinds
 use Rattle.suntimpani.proofs.suntimpani_ask.Reads as flat-reads
 use Rattle.promises.specs.Calls.{Calls}
-use Rattle.promises.specs.StatedContracts.{Keeps}
+use Rattle.promises.specs.StatedContracts.{Keeps, Answered}
 use Rattle.promises.specs.Demand1.{HasCause}
+use Rattle.ask.specs.Told.{ask_told}
 use Rattle.promises.specs.Determined.{Allows}
 use Rattle.promises.specs.Exported.{FlatCalls, FlatKeeps}
 
@@ -88,7 +89,7 @@ pub record Asks (call : AskCall) (lookup : List ℕ → ℕ → ℕ → Answer) 
 abbrev pub KeepsAsk : AskCall → Type 0
 KeepsAsk call =
     (κs : Lfts 1) (a : Dens κs ask-kinds.ps)
-    → Allows ask-kinds.ps ask-kinds.r ask-reads.Learnt κs a (call a.0.now a.1.0 a.1.1.0) (tt, (tt, (tt, tt)))
+    → Answered ask_told (λ z. Allows ask-kinds.ps ask-kinds.r ask-reads.Learnt κs a z (tt, (tt, (tt, tt)))) (call a.0.now a.1.0 a.1.1.0)
 
 abbrev pub AskPromised : Type 0
 AskPromised = (call : AskCall) (calls : Calls) → KeepsAsk call → Keeps calls → Asks call calls.lookup

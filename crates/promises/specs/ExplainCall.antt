@@ -20,7 +20,8 @@ use Rattle.explain.proofs.stepped.explain_step.Reads as step-reads
 use Rattle.explain.proofs.sums.sum_of.Kinds as sum-kinds
 use Rattle.explain.proofs.sums.sum_of.Reads as sum-reads
 use Rattle.promises.specs.Calls.{Calls}
-use Rattle.promises.specs.StatedContracts.{Keeps}
+use Rattle.promises.specs.StatedContracts.{Keeps, Answered}
+use Rattle.explain.specs.Told.{lookup_why_told, step_why_told}
 use Rattle.promises.specs.Determined.{Allows}
 
 -- ---- any calls of this form
@@ -55,10 +56,11 @@ pub record Explains (explain : ExplainCalls) (lookup : List ℕ → ℕ → ℕ 
 -- what the calls answer is what the contracts of our functions allow, and nothing else of them is known
 pub record KeepsExplain (explain : ExplainCalls) : Type 0 where
   pub lookup : (κs : Lfts 1) (a : Dens κs lookup-kinds.ps)
-      → Allows lookup-kinds.ps lookup-kinds.r lookup-reads.Learnt κs a (explain.lookup a.0.now a.1.0 a.1.1.0) (tt, (tt, (tt, tt)))
+      → Answered lookup_why_told (λ z. Allows lookup-kinds.ps lookup-kinds.r lookup-reads.Learnt κs a z (tt, (tt, (tt, tt))))
+      (explain.lookup a.0.now a.1.0 a.1.1.0)
   pub step : (κs : Lfts 2) (a : Dens κs step-kinds.ps)
-      → Allows step-kinds.ps step-kinds.r step-reads.Learnt κs a (explain.step a.0.now a.1.0.now a.1.1.0 a.1.1.1.0)
-      (tt, (tt, (tt, (tt, tt))))
+      → Answered step_why_told (λ z. Allows step-kinds.ps step-kinds.r step-reads.Learnt κs a z (tt, (tt, (tt, (tt, tt)))))
+      (explain.step a.0.now a.1.0.now a.1.1.0 a.1.1.1.0)
   pub sum : (κs : Lfts 0) (a : Dens κs sum-kinds.ps)
       → Allows sum-kinds.ps sum-kinds.r sum-reads.Learnt κs a (explain.sum a.0 a.1.0) (tt, (tt, tt))
 

@@ -2,6 +2,7 @@
 -- start, base register and offsets .. a row reader that holds the section's bytes and its place. It must yield each function's rows once
 -- each and then say that there are no more. A refused section prints the refusal number and index alone." What is promised of a listing, of
 -- a reader of rows and of a reader of lines: predicates of any such calls, over any bytes; and what the contracts of ours allow.
+use Rattle.section.specs.declared.row.Row.{Row}
 use Rattle.std.specs.Prelude.{◌≡◌, List, [], ◌↔◌, ℕ, suc, ◌≤◌, ◌<◌, length, drop, Option, None}
 use borrow.Fn.Kinds.{Dens}
 use contract.Lifetimes.{Lfts}
