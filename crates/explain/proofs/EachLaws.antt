@@ -1,4 +1,4 @@
--- Going through numbers in turn: how it begins, one turn, the end, and what holds after all of them.
+-- Going through numbers in turn: one turn, the end, and what holds after all of them.
 -- Assumes nothing.
 use mathlib.Core.Path.{◌≡◌, refl, sym, ◌∙◌, ap}
 use Prim.Native.Nat.{ℕ, zero, suc, ◌+◌, ◌-◌, ◌≤◌, ◌<◌}
@@ -21,9 +21,6 @@ module _ {A : Type 0} (turn : A → ℕ → A) where
   each-end n i known le = let none : n - i ≡ 0 = omega arith in ap (λ m. each turn m i known) none
 
   -- a loop that makes each turn: what is left comes to the whole
-
-  pub each_begins : (n : ℕ) {known first : A} → known ≡ first → each turn (n - 0) 0 known ≡ each turn n 0 first
-  each_begins n {known} {first} e = let all : n - 0 ≡ n = omega arith in ap (λ m. each turn m 0 known) all ∙ ap (each turn n 0) e
 
   pub each_next : (n i : ℕ) {known next whole : A} → i < n → next ≡ turn known i → each turn (n - i) i known ≡ whole
       → each turn (n - (i + 1)) (i + 1) next ≡ whole

@@ -9,7 +9,6 @@ pub mod Implies
 pub mod KeyLaws
 pub mod Linked
 pub mod NearestLaws
-pub mod PlaceLaws
 pub mod RowLaws
 pub mod SumLaws
 pub mod ToldLaws

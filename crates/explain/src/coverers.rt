@@ -47,6 +47,7 @@ fn with_if(known: Coverers, i: u64, covers: bool) -> Coverers
 }
 
 // Whether function i covers the PC.
+#[tactic(auto, using(crate::proofs::CoversLaws::covers_none, crate::proofs::CoversLaws::covers_some))]
 fn covers_pc(section: &[u8], layout: Layout, i: u64, address: u64, pc: u64) -> bool
     requires { HeaderOf section.now layout × (i < layout.functions) }
     ensures { result ≡ covers (distance address pc) (function_in section.now i) }
@@ -58,6 +59,7 @@ fn covers_pc(section: &[u8], layout: Layout, i: u64, address: u64, pc: u64) -> b
 }
 
 // Every function is tried, in the section's order.
+#[tactic(auto, using(crate::proofs::EachLaws::each_ends), unfolding(crate::specs::Computed::Coverers::no_coverers, crate::specs::Computed::Coverers::coverers_in))]
 pub fn all_covering(section: &[u8], layout: Layout, address: u64, pc: u64) -> Coverers
     requires { HeaderOf section.now layout }
     ensures { result ≡ coverers_in section.now (distance address pc) }

@@ -26,6 +26,7 @@ use section::row::{row_length, row_start_at};
 use section::shape::{Shape, shape_of};
 
 // Where row k stands: each row follows the one before it.
+#[tactic(auto, unfolding(section::specs::Row::row_place))]
 fn row_place(area: &[u8], code: usize, first: usize, k: u64) -> usize
     requires { ((j : ℕ) → j < k → Readable area.now code (row_place area.now code first j)) × (code ≤ 2) }
     ensures { result ≡ row_place area.now code first k }
@@ -38,6 +39,7 @@ fn row_place(area: &[u8], code: usize, first: usize, k: u64) -> usize
 }
 
 // Where row k of an entry starts, if there is one.
+#[tactic(auto, using(accept::proofs::RowLaws::entry_sound), unfolding(crate::specs::Computed::Lookup::start_in, section::specs::Row::row_start))]
 fn start_in(area: &[u8], shape: Shape, entry: Entry, k: u64) -> Option<u64>
     requires { entry_fault area.now shape entry ≡ Sound }
     ensures { result ≡ start_in area.now shape entry k }
@@ -81,6 +83,7 @@ fn by_scan(
 }
 
 // What function i comes to, which alone covers the PC.
+#[tactic(auto, using(section::proofs::AreaLaws::to_the_end, accept::proofs::AcceptedLaws::area_inside, lookup::proofs::LookLaws::accepted_header, lookup::proofs::LookLaws::fault_free, lookup::proofs::TableLaws::header_obeys), unfolding(crate::specs::Computed::Lookup::in_function, lookup::specs::Computed::Rows::row_for, section::specs::Meaning::function_in, section::specs::Meaning::area_of, section::specs::Meaning::shape_of, lookup::specs::Inner::Reached::reached_in))]
 fn in_function(
     section: &[u8],
     layout: Layout,
@@ -124,6 +127,7 @@ fn no_function(section: &[u8], layout: Layout, address: u64, pc: u64) -> NotFoun
     }
 }
 
+#[tactic(auto, using(lookup::proofs::LookLaws::accepted_header), unfolding(crate::specs::Computed::Lookup::by_cover))]
 fn by_cover(section: &[u8], layout: Layout, cover: Cover, address: u64, pc: u64) -> LookedWhy
     requires { AcceptedOf section.now layout × (cover ≡ cover_of (covering (distance address pc) (functions_of section.now))) }
     ensures { result ≡ by_cover section.now (distance address pc) cover }
@@ -139,6 +143,7 @@ fn by_cover(section: &[u8], layout: Layout, cover: Cover, address: u64, pc: u64)
 }
 
 // On a section that was checked before.
+#[tactic(auto, using(lookup::proofs::LookLaws::accepted_header, lookup::proofs::SearchLaws::search_finds_covering), unfolding(crate::specs::Computed::Lookup::looked_of, lookup::specs::Inner::Search::search_of))]
 pub fn explain_look(section: &[u8], layout: Layout, address: u64, pc: u64) -> LookedWhy
     requires { AcceptedOf section.now layout }
     ensures { result ≡ looked_of section.now (distance address pc) }

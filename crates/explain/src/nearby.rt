@@ -58,6 +58,7 @@ fn key_of(side: Side, start: u64, size: u32, d: u64) -> u64
 }
 
 // The key of function i.
+#[tactic(auto, using(crate::proofs::KeyLaws::key_small, crate::proofs::KeyLaws::key_tried))]
 fn key_at(section: &[u8], layout: Layout, order: Order, side: Side, i: u64, d: u64) -> u64
     requires { TableOf section.now layout order × (i < layout.functions) }
     ensures i_value { (z : ℤ) (best : Best) → Near z d → best.key ≤ 2 ^ 34 → nearest_of side (better best result i) ≡ tried side z (function_start section.now i) (entry_in section.now i).size i (nearest_of side best) }
@@ -79,6 +80,7 @@ fn better_of(best: Best, key: u64, i: u64) -> Best
 }
 
 // The largest key of all functions.
+#[tactic(auto, using(crate::proofs::EachLaws::each_ends), unfolding(crate::specs::Computed::Nearest::nearest_in, crate::specs::Inner::Keys::nearest_of))]
 fn best_in(section: &[u8], layout: Layout, order: Order, side: Side, d: u64) -> Best
     requires { TableOf section.now layout order × (d ≤ 2 ^ 34) }
     ensures result_value { (z : ℤ) → Near z d → nearest_of side result ≡ nearest_in section.now side z }
@@ -132,6 +134,7 @@ fn nearest_of(side: Side, best: Best) -> Option<Covered>
 }
 
 // The covered address nearest to a PC on one side, where no function covers the PC itself.
+#[tactic(auto, using(lookup::proofs::TableLaws::header_obeys, crate::proofs::KeyLaws::near_small))]
 pub fn nearest_at(
     section: &[u8],
     layout: Layout,
