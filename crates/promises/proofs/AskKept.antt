@@ -1,6 +1,6 @@
 -- What is promised of an asked address holds of every call that keeps the contract of our function, and through the struct of C of every
 -- call that keeps that of our exported one; and no other call meets it. Assumes nothing.
-use mathlib.Core.Path.{◌≡◌, refl, sym, ap, subst, fun_ext}
+use mathlib.Core.Path.{◌≡◌, refl, sym, ◌∙◌, ap, subst, fun_ext}
 use mathlib.Core.List.{List, []}
 use mathlib.Core.Logic.{inl, inr, ⊎_elim}
 use Prim.Native.Nat.{ℕ}
@@ -25,6 +25,7 @@ use Rattle.promises.specs.Inner.Lent.{lent}
 use Rattle.promises.proofs.ContractLaws.{somewhere}
 use Rattle.promises.proofs.ExportedKept.{flat_are_exported}
 use Rattle.promises.proofs.Kept.{kept_are_ours}
+use Rattle.promises.proofs.Replies.{asked_reply}
 
 -- ---- our own
 
@@ -65,11 +66,12 @@ our_asks =
 -- ---- the contract
 
 pub ask_kept : KeepsAsk ask_of
-ask_kept κs a = refl
+ask_kept κs a = let it = asked_reply a.0.now a.1.0 a.1.1.0 in (it.0, it.1, it.1)
 
 -- a call that keeps it is ours
 kept_is_ours : (call : AskCall) → KeepsAsk call → call ≡ ask_of
-kept_is_ours call keeps = fun_ext λ s. fun_ext λ address. fun_ext λ pc. keeps ([], tt) (lent somewhere s, (address, (pc, tt)))
+kept_is_ours call keeps =
+    fun_ext λ s. fun_ext λ address. fun_ext λ pc. let it = keeps ([], tt) (lent somewhere s, (address, (pc, tt))) in sym it.1 ∙ it.2
 
 pub ask_promised : AskPromised
 unfolding ours

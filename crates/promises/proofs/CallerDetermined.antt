@@ -33,7 +33,7 @@ use Rattle.caller.proofs.signature.is_maskless.Kinds as is_maskless-kinds
 use Rattle.caller.proofs.signature.is_maskless.Reads as is_maskless-reads
 use Rattle.caller.proofs.signature.mask_of.Kinds as mask_of-kinds
 use Rattle.caller.proofs.signature.mask_of.Reads as mask_of-reads
-use Rattle.caller.proofs.ToldLaws.{step_told_once}
+use Rattle.caller.proofs.ToldLaws.{frame_told_once, step_told_once}
 use Rattle.promises.specs.Determined.{Determined}
 
 pub spot_of_determined : Determined spot_of-kinds.ps spot_of-kinds.r spot_of-reads.Learnt
@@ -76,10 +76,10 @@ pub clear_determined : Determined clear-kinds.ps clear-kinds.r clear-reads.Learn
 clear_determined κs a z z' w w' p q = (p ∙ sym q, refl)
 
 pub from_row_determined : Determined from_row-kinds.ps from_row-kinds.r from_row-reads.Learnt
-from_row_determined κs a z z' w w' p q = (step_told_once _ _ (p ∙ sym q), refl)
+from_row_determined κs a z z' w w' p q = (frame_told_once _ _ (p ∙ sym q), refl)
 
 pub step_checked_determined : Determined step_checked-kinds.ps step_checked-kinds.r step_checked-reads.Learnt
-step_checked_determined κs a z z' w w' p q = (step_told_once _ _ (p ∙ sym q), refl)
+step_checked_determined κs a z z' w w' p q = (frame_told_once _ _ (p ∙ sym q), refl)
 
 pub step_determined : Determined step-kinds.ps step-kinds.r step-reads.Learnt
 step_determined κs a z z' w w' p q = (step_told_once _ _ (p ∙ sym q), refl)

@@ -1,5 +1,5 @@
 -- What is promised of explanations holds of every calls that keep the contracts of our functions. Assumes nothing.
-use mathlib.Core.Path.{◌≡◌, refl, sym, subst}
+use mathlib.Core.Path.{◌≡◌, refl, sym, ◌∙◌, subst}
 use mathlib.Core.List.{List, []}
 use Prim.Native.Nat.{ℕ}
 use Rattle.numbers.specs.declared.offset.Offset.{Offset}
@@ -19,19 +19,26 @@ use Rattle.promises.specs.Computed.Ours.{ours}
 use Rattle.promises.specs.Inner.Lent.{lent}
 use Rattle.promises.proofs.ContractLaws.{somewhere}
 use Rattle.promises.proofs.Kept.{kept_are_ours}
+use Rattle.promises.proofs.Replies.{lookup_why_reply, step_why_reply}
 
 -- ---- the contracts
 
 pub explain_kept : KeepsExplain (record { lookup = lookup_why; step = step_why; sum = λ base offset. sum_of base offset.by })
-explain_kept = record { lookup = λ κs a. refl; step = λ κs a. refl; sum = λ κs a. refl }
+explain_kept =
+    record {
+      lookup = λ κs a. let it = lookup_why_reply a.0.now a.1.0 a.1.1.0 in (it.0, it.1, it.1);
+      step = λ κs a. let it = step_why_reply a.0.now a.1.0.now a.1.1.0 a.1.1.1.0 in (it.0, it.1, it.1);
+      sum = λ κs a. refl;
+    }
 
 -- calls that keep them answer as ours do
 module _ (explain : ExplainCalls) (keeps : KeepsExplain explain) where
   lookup-ours : (s : List ℕ) (address pc : ℕ) → explain.lookup s address pc ≡ lookup_why s address pc
-  lookup-ours s address pc = keeps.lookup ([], tt) (lent somewhere s, (address, (pc, tt)))
+  lookup-ours s address pc = let it = keeps.lookup ([], tt) (lent somewhere s, (address, (pc, tt))) in sym it.1 ∙ it.2
 
   step-ours : (s stack : List ℕ) (process : Process) (registers : Registers) → explain.step s stack process registers ≡ step_why s stack process registers
-  step-ours s stack process registers = keeps.step ([], ([], tt)) (lent somewhere s, (lent somewhere stack, (process, (registers, tt))))
+  step-ours s stack process registers =
+      let it = keeps.step ([], ([], tt)) (lent somewhere s, (lent somewhere stack, (process, (registers, tt)))) in sym it.1 ∙ it.2
 
   sum-ours : (base : ℕ) (offset : Offset) → explain.sum base offset ≡ sum_of base offset.by
   sum-ours base offset = keeps.sum tt (base, (offset, tt))

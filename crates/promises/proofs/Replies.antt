@@ -7,16 +7,18 @@ use mathlib.Core.Logic.{⊎_elim}
 use Prim.Native.Nat.{ℕ}
 use lib.IntN.{ℤ}
 use lib.ListN.{length}
-use Rattle.std.proofs.Common.{Result, Ok, Err}
+use mathlib.Core.Bool.{Bool, true, false}
+use Rattle.std.proofs.Common.{Option, Some, None, Result, Ok, Err}
 use Rattle.numbers.specs.Start.{distance}
-use Rattle.section.specs.Meaning.{functions_of}
+use Rattle.numbers.specs.Computed.Address.{window_fits}
+use Rattle.section.specs.Meaning.{shape_of}
 use Rattle.accept.specs.Computed.Checks.{verdict}
 use Rattle.accept.specs.Told.{verdict_told}
 use Rattle.accept.specs.Verdict.{Verdict, Accepted, Refused}
 use Rattle.accept.specs.declared.verdict.Refusal.{Refusal}
 use Rattle.accept.proofs.Exactly.{refused_by_a_rule}
 use Rattle.lookup.specs.Cases as lookup_cases
-use Rattle.lookup.specs.Computed.Answers.{outcome, answer, answer_of, answer_after, lookup_of}
+use Rattle.lookup.specs.Computed.Answers.{answer, answer_of, answer_after, lookup_of}
 use Rattle.lookup.specs.Numbers.{no_function, dispute, no_row, number_of_unfound}
 use Rattle.lookup.specs.Outcome.{Outcome}
 use Rattle.lookup.specs.Outcome as found
@@ -37,6 +39,7 @@ use Rattle.ask.specs.declared.answer.AskRefusal.TheVariants as refused
 use Rattle.ask.proofs.CaseLaws.{some_case}
 use Rattle.caller.specs.Cases as step_cases
 use Rattle.caller.specs.Computed.Caller.{step_in}
+use Rattle.caller.specs.Frame.{asked_of}
 use Rattle.caller.specs.Numbers.{number_of_refusal, number_of_step_cause, unfound, signed, cfa_outside, cfa_low, ra_lost, word_outside}
 use Rattle.caller.specs.Numbers as step_numbers
 use Rattle.caller.specs.Step.{Step}
@@ -50,19 +53,31 @@ use Rattle.caller.specs.declared.registers.StepCause.TheVariants.{Window, Unsoun
 use Rattle.caller.specs.declared.registers.StepRefusal.{StepRefusal}
 use Rattle.caller.proofs.Exactly.{step_exactly_when}
 use Rattle.trace.specs.Cases as trace_cases
-use Rattle.trace.specs.Computed.Trace.{Walk, walk_in, traced, trace_of}
+use Rattle.trace.specs.Computed.Trace.{traced, trace_of}
 use Rattle.trace.specs.Ending.{Ending}
 use Rattle.trace.specs.Ending as ending
-use Rattle.trace.specs.Frames.{Frame as FrameOfTrace, traced_as}
-use Rattle.trace.specs.Told.{ending_told, trace_told}
+use Rattle.trace.specs.Frames.{traced_as}
+use Rattle.trace.specs.Numbers.{number_of_trace_cause}
+use Rattle.trace.specs.declared.answer.Frame as written
+use Rattle.trace.specs.Told.{trace_told}
 use Rattle.trace.specs.declared.answer.DoorFault.TheVariants as door
-use Rattle.trace.specs.declared.answer.Ending as code
 use Rattle.trace.specs.declared.answer.Ending.TheVariants as ends
 use Rattle.trace.specs.declared.answer.TraceRefusal.{TraceRefusal}
 use Rattle.trace.specs.declared.answer.TraceRefusal.TheVariants as shut
 use Rattle.trace.specs.declared.answer.Traced.{Traced}
 use Rattle.trace.proofs.Exactly as traces
 use Rattle.explain.specs.Computed.Coverers.{no_coverers}
+use Rattle.explain.specs.Computed.Lookup.{why_after, lookup_why}
+use Rattle.explain.specs.Computed.Step.{from_row_why, by_reason, by_looked, unlooked_why, asked_why, checked_why, step_why}
+use Rattle.explain.specs.LookupReason as lookup
+use Rattle.explain.specs.StepReason as reason
+use Rattle.explain.specs.Told.{lookup_why_told, step_why_told}
+use Rattle.explain.specs.declared.why.Coverers.{Coverers}
+use Rattle.explain.specs.declared.why.FoundRow.{FoundRow}
+use Rattle.explain.specs.declared.why.LookedWhy.{LookedWhy}
+use Rattle.explain.specs.declared.why.NotFound.{NotFound as NotFoundRow}
+use Rattle.explain.specs.declared.why.StepReason.TheVariants.{Window as window_why, Unsound as unsound_why, NothingAsked, NotFound, FromRow}
+use Rattle.explain.specs.declared.why.StepWhy.{StepWhy}
 
 -- ---- a check
 
@@ -141,3 +156,82 @@ module _ (s stack : List ℕ) (process : Process) (registers : Registers) where
 
   pub stepped : (z : Result Registers StepRefusal) × (step_told z ≡ step_in s stack process registers)
   stepped = stepped-by _ ((step_exactly_when s stack process registers _).0 refl)
+
+-- ---- a trace
+
+module _ (s stack : List ℕ) (process : Process) (registers : Registers) (limit : ℕ) (buffer : List ℕ) where
+  abbrev TellsEnding : Ending → ℕ → Type 0
+  TellsEnding e count = (z : Result Traced TraceRefusal) × (trace_told z ≡ record { ending = e; frames = count })
+
+  walked-by : (frames : List written.Frame) (e : Ending) → trace_cases.Case s stack process registers limit buffer frames e → TellsEnding e (length frames)
+  unfolding number_of_trace_cause number_of_step_cause
+  walked-by frames ending.Outermost h = (Ok (record { ending = ends.Outermost; frames = length frames }), refl)
+  walked-by frames ending.Full h = (Ok (record { ending = ends.Full; frames = length frames }), refl)
+  walked-by frames (ending.Refused number) h =
+      let own = h.walk.ends.2 in
+      let it = frame-of own.0 in
+      (Ok (record { ending = ends.Refused it.0; frames = length frames }),
+      ap (λ n. record { ending = ending.Refused n; frames = length frames }) (it.1 ∙ sym own.1))
+  walked-by frames (ending.Shut number) h =
+      rw h.0
+      (⊎_elim
+      (λ at. (Err (shut.Shut door.Window), ap (λ n. record { ending = ending.Shut n; frames = 0 }) (sym at.0)))
+      (⊎_elim
+      (λ at. (Err (shut.Shut door.Limit), ap (λ n. record { ending = ending.Shut n; frames = 0 }) (sym at.0)))
+      (λ at. (Err (shut.Shut door.Words), ap (λ n. record { ending = ending.Shut n; frames = 0 }) (sym at.0))))
+      h.1)
+  walked-by frames (ending.Unsound number index) h =
+      rw h.0
+      ((Err (shut.Unsound (record { rule = h.2; index = index })),
+      ap (λ n. record { ending = ending.Unsound n index; frames = 0 }) (sym h.3)))
+
+  pub traced_reply : (z : Result Traced TraceRefusal) × (trace_told z ≡ (trace_of s stack process registers limit buffer).answer)
+  unfolding trace_of traced traced_as
+  traced_reply = walked-by _ _ (traces.some_case s stack process registers limit buffer)
+
+-- ---- explanations
+
+module _ (s : List ℕ) where
+  why-by : (v : Verdict) → verdict s ≡ v → (why : LookedWhy) → (z : Result LookedWhy Refusal) × (lookup_why_told z ≡ why_after v why)
+  unfolding why_after
+  why-by Accepted e why = (Ok why, refl)
+  why-by (Refused number index) e why =
+      let rule = refused_by_a_rule s number index e in
+      (Err (record { rule = rule.0; index = index }), ap (λ n. record { reason = lookup.Unsound n index; coverers = no_coverers }) (sym rule.1))
+
+  pub lookup_why_reply : (address pc : ℕ) → (z : Result LookedWhy Refusal) × (lookup_why_told z ≡ lookup_why s address pc)
+  unfolding lookup_why
+  lookup_why_reply address pc = why-by (verdict s) refl _
+
+module _ (s stack : List ℕ) (process : Process) (registers : Registers) where
+  reason-by : (pc : ℕ) (coverers : Coverers) (looked : Result FoundRow NotFoundRow)
+      → (z : StepWhy) × (step_why_told z ≡ record { reason = by_reason (shape_of s) stack process registers pc looked; coverers = coverers })
+  unfolding by_reason
+  reason-by pc coverers (Ok found) =
+      (record { reason = FromRow found (from_row_why (shape_of s) stack process registers found.row) pc; coverers = coverers }, refl)
+  reason-by pc coverers (Err missing) = (record { reason = NotFound pc missing; coverers = coverers }, refl)
+
+  asked-why-by : (asked : Option ℕ) → (z : StepWhy) × (step_why_told z ≡ asked_why s stack process registers asked)
+  unfolding asked_why unlooked_why by_looked
+  asked-why-by None = (record { reason = NothingAsked; coverers = no_coverers }, refl)
+  asked-why-by (Some pc) = reason-by pc _ _
+
+  checked-why-by : (v : Verdict) → verdict s ≡ v → (z : StepWhy) × (step_why_told z ≡ checked_why s stack process registers v)
+  unfolding checked_why unlooked_why
+  checked-why-by Accepted e = asked-why-by (asked_of registers)
+  checked-why-by (Refused number index) e =
+      let rule = refused_by_a_rule s number index e in
+      (record { reason = unsound_why (record { rule = rule.0; index = index }); coverers = no_coverers },
+      ap (λ n. record { reason = reason.Unsound n index; coverers = no_coverers }) (sym rule.1))
+
+  why-in : (fits : Bool) → (z : StepWhy) × (step_why_told z ≡ elim fits [
+      | true ↦ checked_why s stack process registers (verdict s)
+      | false ↦ unlooked_why (reason.Window process.stack (length stack))
+    ])
+  unfolding unlooked_why
+  why-in true = checked-why-by (verdict s) refl
+  why-in false = (record { reason = window_why process.stack (length stack); coverers = no_coverers }, refl)
+
+  pub step_why_reply : (z : StepWhy) × (step_why_told z ≡ step_why s stack process registers)
+  unfolding step_why
+  step_why_reply = why-in (window_fits stack process.stack)
