@@ -18,12 +18,14 @@ struct Found {
 }
 
 /// The same, with the names under which are cited what the toolchain makes of its contract, and the contract itself; and
-/// of a function with a reference inside a struct the name that specs/ReaderSays.antt gives to its clauses.
+/// of a function with a reference inside a struct the name that specs/ReaderSays.antt gives to its clauses. A method has
+/// its type as owner.
 struct Function {
     name: String,
     cited: String,
     contract: String,
     clauses: Option<String>,
+    owner: Option<String>,
     requires: bool,
 }
 
@@ -155,7 +157,7 @@ fn functions_of(library: &str, sources: &[Source]) -> Vec<Function> {
             let path = path.join(".");
             let cited = format!("Rattle.{library}.proofs.{path}");
             let contract = format!("Rattle.{library}.specs.contracts.{path}");
-            functions.push(Function { contract, cited, clauses: None, name, requires });
+            functions.push(Function { contract, cited, clauses: None, owner, name, requires });
         }
     }
     functions
@@ -508,6 +510,20 @@ fn of_libraries() -> Vec<Function> {
     let named = Proofs::of(&text_of(&in_repository("crates/promises/specs/ReaderSays.antt")));
     for function in &mut functions {
         function.clauses = named.clauses_of(function);
+    }
+    with_owners(functions)
+}
+
+/// Methods of one name are told apart by their types, as `Rule_number`.
+fn with_owners(mut functions: Vec<Function>) -> Vec<Function> {
+    let names: Vec<String> = functions.iter().map(|function| function.name.clone()).collect();
+    for function in &mut functions {
+        if names.iter().filter(|name| **name == function.name).count() < 2 {
+            continue;
+        }
+        if let Some(owner) = &function.owner {
+            function.name = format!("{owner}_{}", function.name);
+        }
     }
     functions
 }

@@ -17,6 +17,8 @@ use Rattle.accept.proofs.section_check.check.Kinds as check-kinds
 use Rattle.accept.proofs.section_check.check.Reads as check-reads
 use Rattle.accept.proofs.ToldLaws.{fault_told_once}
 use Rattle.accept.proofs.ToldLaws.{verdict_told_once}
+use Rattle.accept.proofs.verdict.Rule.number.Kinds as Rule_number-kinds
+use Rattle.accept.proofs.verdict.Rule.number.Reads as Rule_number-reads
 use Rattle.promises.specs.Determined.{Determined}
 
 pub wrong_entry_info_determined : Determined wrong_entry_info-kinds.ps wrong_entry_info-kinds.r wrong_entry_info-reads.Learnt
@@ -39,3 +41,6 @@ check_rows_determined κs a z z' w w' p q = (fault_told_once _ _ (p ∙ sym q), 
 
 pub check_determined : Determined check-kinds.ps check-kinds.r check-reads.Learnt
 check_determined κs a z z' w w' p q = (verdict_told_once _ _ (p ∙ sym q), refl)
+
+pub Rule_number_determined : Determined Rule_number-kinds.ps Rule_number-kinds.r Rule_number-reads.Learnt
+Rule_number_determined κs a z z' w w' p q = (p ∙ sym q, refl)

@@ -25,7 +25,7 @@ use Rattle.promises.specs.Inner.Lent.{lent}
 use Rattle.promises.proofs.ContractLaws.{somewhere}
 use Rattle.promises.proofs.ExportedKept.{flat_are_exported}
 use Rattle.promises.proofs.Kept.{kept_are_ours}
-use Rattle.promises.proofs.Replies.{asked_reply}
+use Rattle.promises.proofs.Replies.{ask_replied}
 
 -- ---- our own
 
@@ -66,7 +66,7 @@ our_asks =
 -- ---- the contract
 
 pub ask_kept : KeepsAsk ask_of
-ask_kept κs a = let it = asked_reply a.0.now a.1.0 a.1.1.0 in (it.0, it.1, it.1)
+ask_kept κs a = let it = ask_replied a.0.now a.1.0 a.1.1.0 in (it.0, it.1, it.1)
 
 -- a call that keeps it is ours
 kept_is_ours : (call : AskCall) → KeepsAsk call → call ≡ ask_of

@@ -34,6 +34,12 @@ use Rattle.caller.proofs.signature.is_maskless.Reads as is_maskless-reads
 use Rattle.caller.proofs.signature.mask_of.Kinds as mask_of-kinds
 use Rattle.caller.proofs.signature.mask_of.Reads as mask_of-reads
 use Rattle.caller.proofs.ToldLaws.{frame_told_once, step_told_once}
+use Rattle.caller.proofs.registers.FrameCause.number.Kinds as FrameCause_number-kinds
+use Rattle.caller.proofs.registers.FrameCause.number.Reads as FrameCause_number-reads
+use Rattle.caller.proofs.registers.StepCause.number.Kinds as StepCause_number-kinds
+use Rattle.caller.proofs.registers.StepCause.number.Reads as StepCause_number-reads
+use Rattle.caller.proofs.registers.StepCause.index.Kinds as index-kinds
+use Rattle.caller.proofs.registers.StepCause.index.Reads as index-reads
 use Rattle.promises.specs.Determined.{Determined}
 
 pub spot_of_determined : Determined spot_of-kinds.ps spot_of-kinds.r spot_of-reads.Learnt
@@ -83,3 +89,12 @@ step_checked_determined κs a z z' w w' p q = (frame_told_once _ _ (p ∙ sym q)
 
 pub step_determined : Determined step-kinds.ps step-kinds.r step-reads.Learnt
 step_determined κs a z z' w w' p q = (step_told_once _ _ (p ∙ sym q), refl)
+
+pub FrameCause_number_determined : Determined FrameCause_number-kinds.ps FrameCause_number-kinds.r FrameCause_number-reads.Learnt
+FrameCause_number_determined κs a z z' w w' p q = (p ∙ sym q, refl)
+
+pub StepCause_number_determined : Determined StepCause_number-kinds.ps StepCause_number-kinds.r StepCause_number-reads.Learnt
+StepCause_number_determined κs a z z' w w' p q = (p ∙ sym q, refl)
+
+pub index_determined : Determined index-kinds.ps index-kinds.r index-reads.Learnt
+index_determined κs a z z' w w' p q = (p ∙ sym q, refl)

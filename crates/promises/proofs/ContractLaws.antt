@@ -14,7 +14,7 @@ use Rattle.promises.specs.Calls.{Calls}
 use Rattle.promises.specs.StatedContracts.{Keeps, GivenBy}
 use Rattle.promises.specs.Computed.Ours.{ours}
 use Rattle.promises.specs.Inner.Lent.{Lies, lent, lent_to_write}
-use Rattle.promises.proofs.Replies.{checked, looked, stepped, traced_reply}
+use Rattle.promises.proofs.Replies.{check_replied, lookup_replied, step_replied, trace_replied}
 
 pub contracts_give : GivenBy ours
 unfolding ours
@@ -30,11 +30,11 @@ pub contracts_kept : Keeps ours
 unfolding ours traced_as
 contracts_kept =
     record {
-      check = λ κs a. let it = checked a.0.now in (it.0, it.1, it.1);
-      lookup = λ κs a. let it = looked a.0.now a.1.0 a.1.1.0 in (it.0, it.1, it.1);
-      step = λ κs a. let it = stepped a.1.0.now a.1.1.0.now a.1.1.1.0 a.0 in (it.0, it.1, it.1);
+      check = λ κs a. let it = check_replied a.0.now in (it.0, it.1, it.1);
+      lookup = λ κs a. let it = lookup_replied a.0.now a.1.0 a.1.1.0 in (it.0, it.1, it.1);
+      step = λ κs a. let it = step_replied a.1.0.now a.1.1.0.now a.1.1.1.0 a.0 in (it.0, it.1, it.1);
       trace = λ κs a.
-          let it = traced_reply a.0.now a.1.0.now a.1.1.0 a.1.1.1.0 a.1.1.1.1.0 a.1.1.1.1.1.0.now in
+          let it = trace_replied a.0.now a.1.0.now a.1.1.0 a.1.1.1.0 a.1.1.1.1.0 a.1.1.1.1.1.0.now in
           (it.0, it.1, ap (λ answer. traced_as answer (trace_of a.0.now a.1.0.now a.1.1.0 a.1.1.1.0 a.1.1.1.1.0 a.1.1.1.1.1.0.now).words) it.1);
     }
 

@@ -19,15 +19,15 @@ use Rattle.promises.specs.Computed.Ours.{ours}
 use Rattle.promises.specs.Inner.Lent.{lent}
 use Rattle.promises.proofs.ContractLaws.{somewhere}
 use Rattle.promises.proofs.Kept.{kept_are_ours}
-use Rattle.promises.proofs.Replies.{lookup_why_reply, step_why_reply}
+use Rattle.promises.proofs.Replies.{lookup_why_replied, step_why_replied}
 
 -- ---- the contracts
 
 pub explain_kept : KeepsExplain (record { lookup = lookup_why; step = step_why; sum = λ base offset. sum_of base offset.by })
 explain_kept =
     record {
-      lookup = λ κs a. let it = lookup_why_reply a.0.now a.1.0 a.1.1.0 in (it.0, it.1, it.1);
-      step = λ κs a. let it = step_why_reply a.0.now a.1.0.now a.1.1.0 a.1.1.1.0 in (it.0, it.1, it.1);
+      lookup = λ κs a. let it = lookup_why_replied a.0.now a.1.0 a.1.1.0 in (it.0, it.1, it.1);
+      step = λ κs a. let it = step_why_replied a.0.now a.1.0.now a.1.1.0 a.1.1.1.0 in (it.0, it.1, it.1);
       sum = λ κs a. refl;
     }
 

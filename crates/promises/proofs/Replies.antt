@@ -88,8 +88,8 @@ module _ (s : List ℕ) where
       let rule = refused_by_a_rule s number index e in
       (Err (record { rule = rule.0; index = index }), ap (λ n. Refused n index) (sym rule.1))
 
-  pub checked : (z : Result (Unit {0}) Refusal) × (verdict_told z ≡ verdict s)
-  checked = checked-by (verdict s) refl
+  pub check_replied : (z : Result (Unit {0}) Refusal) × (verdict_told z ≡ verdict s)
+  check_replied = checked-by (verdict s) refl
 
   -- ---- a lookup
 
@@ -110,9 +110,9 @@ module _ (s : List ℕ) where
       let rule = refused_by_a_rule s number index e in
       (Err (record { rule = rule.0; index = index }), ap (λ n. record { outcome = found.Unsound n index; compared = 0 }) (sym rule.1))
 
-  pub looked : (address pc : ℕ) → (z : Result Answer Refusal) × (lookup_told z ≡ lookup_of s address pc)
+  pub lookup_replied : (address pc : ℕ) → (z : Result Answer Refusal) × (lookup_told z ≡ lookup_of s address pc)
   unfolding lookup_of
-  looked address pc = looked-by address pc (verdict s) refl
+  lookup_replied address pc = looked-by address pc (verdict s) refl
 
   -- ---- an asked address
 
@@ -124,8 +124,8 @@ module _ (s : List ℕ) where
   asked-by d (asked.NoRow i compared) h = (Err (refused.NoRow i compared), refl)
   asked-by d (asked.Damaged i compared) h = (Err (refused.Damaged i compared), refl)
 
-  pub asked_reply : (address pc : ℕ) → (z : Result AskFound AskRefusal) × (ask_told z ≡ ask_of s address pc)
-  asked_reply address pc = asked-by (distance address pc) _ (some_case s address pc)
+  pub ask_replied : (address pc : ℕ) → (z : Result AskFound AskRefusal) × (ask_told z ≡ ask_of s address pc)
+  ask_replied address pc = asked-by (distance address pc) _ (some_case s address pc)
 
 -- ---- a step
 
@@ -154,8 +154,8 @@ module _ (s stack : List ℕ) (process : Process) (registers : Registers) where
       (Err (record { old = old; cause = Frame it.0 }), ap (step.Refused old) (it.1 ∙ sym own.1)))
       h.1
 
-  pub stepped : (z : Result Registers StepRefusal) × (step_told z ≡ step_in s stack process registers)
-  stepped = stepped-by _ ((step_exactly_when s stack process registers _).0 refl)
+  pub step_replied : (z : Result Registers StepRefusal) × (step_told z ≡ step_in s stack process registers)
+  step_replied = stepped-by _ ((step_exactly_when s stack process registers _).0 refl)
 
 -- ---- a trace
 
@@ -185,9 +185,9 @@ module _ (s stack : List ℕ) (process : Process) (registers : Registers) (limit
       ((Err (shut.Unsound (record { rule = h.2; index = index })),
       ap (λ n. record { ending = ending.Unsound n index; frames = 0 }) (sym h.3)))
 
-  pub traced_reply : (z : Result Traced TraceRefusal) × (trace_told z ≡ (trace_of s stack process registers limit buffer).answer)
+  pub trace_replied : (z : Result Traced TraceRefusal) × (trace_told z ≡ (trace_of s stack process registers limit buffer).answer)
   unfolding trace_of traced traced_as
-  traced_reply = walked-by _ _ (traces.some_case s stack process registers limit buffer)
+  trace_replied = walked-by _ _ (traces.some_case s stack process registers limit buffer)
 
 -- ---- explanations
 
@@ -199,9 +199,9 @@ module _ (s : List ℕ) where
       let rule = refused_by_a_rule s number index e in
       (Err (record { rule = rule.0; index = index }), ap (λ n. record { reason = lookup.Unsound n index; coverers = no_coverers }) (sym rule.1))
 
-  pub lookup_why_reply : (address pc : ℕ) → (z : Result LookedWhy Refusal) × (lookup_why_told z ≡ lookup_why s address pc)
+  pub lookup_why_replied : (address pc : ℕ) → (z : Result LookedWhy Refusal) × (lookup_why_told z ≡ lookup_why s address pc)
   unfolding lookup_why
-  lookup_why_reply address pc = why-by (verdict s) refl _
+  lookup_why_replied address pc = why-by (verdict s) refl _
 
 module _ (s stack : List ℕ) (process : Process) (registers : Registers) where
   reason-by : (pc : ℕ) (coverers : Coverers) (looked : Result FoundRow NotFoundRow)
@@ -232,6 +232,6 @@ module _ (s stack : List ℕ) (process : Process) (registers : Registers) where
   why-in true = checked-why-by (verdict s) refl
   why-in false = (record { reason = window_why process.stack (length stack); coverers = no_coverers }, refl)
 
-  pub step_why_reply : (z : StepWhy) × (step_why_told z ≡ step_why s stack process registers)
+  pub step_why_replied : (z : StepWhy) × (step_why_told z ≡ step_why s stack process registers)
   unfolding step_why
-  step_why_reply = why-in (window_fits stack process.stack)
+  step_why_replied = why-in (window_fits stack process.stack)

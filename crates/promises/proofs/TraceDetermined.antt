@@ -5,8 +5,8 @@ use mathlib.Core.Path.{refl, sym, ◌∙◌, ap}
 use Rattle.trace.specs.Frames.{traced_as}
 use Rattle.trace.proofs.answer.frame_of.Kinds as frame_of-kinds
 use Rattle.trace.proofs.answer.frame_of.Reads as frame_of-reads
-use Rattle.trace.proofs.answer.DoorFault.number.Kinds as number-kinds
-use Rattle.trace.proofs.answer.DoorFault.number.Reads as number-reads
+use Rattle.trace.proofs.answer.DoorFault.number.Kinds as DoorFault_number-kinds
+use Rattle.trace.proofs.answer.DoorFault.number.Reads as DoorFault_number-reads
 use Rattle.trace.proofs.answer.write_frame.Kinds as write_frame-kinds
 use Rattle.trace.proofs.answer.write_frame.Reads as write_frame-reads
 use Rattle.trace.proofs.walk.in_force.Kinds as in_force-kinds
@@ -19,8 +19,8 @@ use Rattle.promises.specs.Determined.{Determined}
 pub frame_of_determined : Determined frame_of-kinds.ps frame_of-kinds.r frame_of-reads.Learnt
 frame_of_determined κs a z z' w w' p q = (p ∙ sym q, refl)
 
-pub door_number_determined : Determined number-kinds.ps number-kinds.r number-reads.Learnt
-door_number_determined κs a z z' w w' p q = (p ∙ sym q, refl)
+pub DoorFault_number_determined : Determined DoorFault_number-kinds.ps DoorFault_number-kinds.r DoorFault_number-reads.Learnt
+DoorFault_number_determined κs a z z' w w' p q = (p ∙ sym q, refl)
 
 pub write_frame_determined : Determined write_frame-kinds.ps write_frame-kinds.r write_frame-reads.Learnt
 write_frame_determined κs a z z' w w' p q = (refl, ap (λ words. (words, (tt, (tt, tt)))) (p ∙ sym q))
