@@ -176,43 +176,31 @@ fn complain_of_index(console: &Console, index: u64, functions: u64) {
     );
 }
 
-fn show_one(console: &Console, section: &[u8], layout: Layout, index: u64) {
+// All of a section, or one function of it.
+fn show_accepted(console: &Console, section: &[u8], layout: Layout, index: Option<u64>) {
     let abi = layout.abi;
-    if index < layout.functions as u64 {
-        show_lines(console, section, abi, cursor_over(index, 1));
-        return;
+    let functions = layout.functions;
+    match index {
+        None => show_lines(console, section, abi, cursor_over(0, functions)),
+        Some(index) if index < functions as u64 => {
+            show_lines(console, section, abi, cursor_over(index, 1))
+        }
+        Some(index) => complain_of_index(console, index, functions as u64),
     }
-    complain_of_index(console, index, layout.functions as u64);
 }
 
-// All of a section.
-fn list_all(console: &Console, section: &[u8]) {
+fn show_listing(console: &Console, section: &[u8], index: Option<u64>) {
     match check(section) {
         Verdict::Refused { number, index } => show_refusal(console, number, index),
-        Verdict::Accepted => {
-            let layout = layout_at(section);
-            let abi = layout.abi;
-            show_lines(console, section, abi, cursor_over(0, layout.functions));
-        }
-    }
-}
-
-// One function.
-fn list_one(console: &Console, section: &[u8], index: u64) {
-    match check(section) {
-        Verdict::Refused {
-            number,
-            index: fault,
-        } => show_refusal(console, number, fault),
-        Verdict::Accepted => show_one(console, section, layout_at(section), index),
+        Verdict::Accepted => show_accepted(console, section, layout_at(section), index),
     }
 }
 
 // FILE alone, or FILE and INDEX.
 pub fn answer_list(rt: &impl Env, console: &Console, section: &[u8]) {
     if argument_count(rt) < 4 {
-        list_all(console, section);
+        show_listing(console, section, None);
     } else if let Some(index) = count_given(rt, console, 3, "INDEX") {
-        list_one(console, section, index);
+        show_listing(console, section, Some(index));
     }
 }

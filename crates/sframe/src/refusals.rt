@@ -3,7 +3,7 @@ use crate::console::Console;
 use crate::say::say;
 use crate::status::tell_refused;
 use crate::text::Distance;
-use listing::function::{Described, function_at};
+use listing::function::{Described, Facts, function_at};
 use numbers::offset::shift_of;
 use std::fmt;
 
@@ -79,8 +79,15 @@ impl fmt::Display for Meant {
     }
 }
 
-// A function by its index, with its start, counted from the section's first byte, and its size. No answer names a function that is
-// not there.
+// A function by its index. No answer names one that is not there.
+pub fn facts_of(section: &[u8], function: u64) -> Option<Facts> {
+    match function_at(section, function) {
+        Described::Function(facts) => Some(facts),
+        Described::Unsound(_) | Described::Unknown => None,
+    }
+}
+
+// A function by its index, with its start, counted from the section's first byte, and its size.
 #[derive(Clone, Copy)]
 pub struct Bounded<'a> {
     pub section: &'a [u8],
@@ -91,14 +98,12 @@ impl fmt::Display for Bounded<'_> {
     fn fmt<W: fmt::Write>(&self, f: &mut fmt::Formatter<W>) -> fmt::Result {
         let function = self.function;
         write!(f, "{function}")?;
-        match function_at(self.section, function) {
-            Described::Unsound(_) | Described::Unknown => Ok(()),
-            Described::Function(facts) => {
-                let start = Distance(shift_of(facts.start));
-                let size = facts.size;
-                write!(f, " (start {start}, size {size})")
-            }
-        }
+        let Some(facts) = facts_of(self.section, function) else {
+            return Ok(());
+        };
+        let start = Distance(shift_of(facts.start));
+        let size = facts.size;
+        write!(f, " (start {start}, size {size})")
     }
 }
 

@@ -1,13 +1,13 @@
 // Why a lookup gives its answer: the answer, and below it sentences that can be checked by hand, each with its rule.
 use crate::console::Console;
 use crate::hints::hint_of_unlinked;
-use crate::refusals::{show_refused, show_refused_in, show_unsound};
+use crate::refusals::{facts_of, show_refused, show_refused_in, show_unsound};
 use crate::say::say;
 use crate::show::show_which;
 use crate::text::{Cfa, Count, Distance, Saved};
 use explain::looked::explain_lookup;
 use explain::why::{Coverers, FoundRow, Looked, LookupReason, Nearest, NotFound, RowStart};
-use listing::function::{Described, Facts, Kind, function_at};
+use listing::function::Kind;
 use numbers::offset::{Shift, shift_of};
 use section::row::Row;
 use std::fmt;
@@ -58,7 +58,11 @@ impl fmt::Display for Origin {
     }
 }
 
-fn show_covering(console: &Console, function: u64, offset: u64, facts: Facts) {
+// The one function that covers, and the offset used in it.
+fn show_function(console: &Console, section: &[u8], function: u64, offset: u64) {
+    let Some(facts) = facts_of(section, function) else {
+        return;
+    };
     let start = Distance(shift_of(facts.start));
     let size = Count(facts.size as u64, "byte");
     let origin = Origin(facts.kind);
@@ -72,14 +76,6 @@ fn show_covering(console: &Console, function: u64, offset: u64, facts: Facts) {
         console,
         format_args!("  the offset used is {offset}, from {origin} (SPECIFICATION 4.5)\n"),
     );
-}
-
-// The one function that covers, and the offset used in it. An explanation names no function that is not there.
-fn show_function(console: &Console, section: &[u8], function: u64, offset: u64) {
-    match function_at(section, function) {
-        Described::Unsound(_) | Described::Unknown => {}
-        Described::Function(facts) => show_covering(console, function, offset, facts),
-    }
 }
 
 // Where the row behind the one used starts.

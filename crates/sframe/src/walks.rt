@@ -126,10 +126,9 @@ fn is_one_input(rt: &impl Env, console: &Console) -> bool {
 
 // In a room up to this one.
 fn walk_opened<R: Env + Files + Input>(rt: &R, console: &Console, walk: Walk<'_>, largest: Room) {
-    let Some(opened) = open_given(rt, console, 4, "sframe: STACK") else {
+    let Some(mut opened) = open_given(rt, console, 4, "sframe: STACK") else {
         return;
     };
-    let mut opened = opened;
     let attempt = |opened: &mut Opened<R::File>, room: &mut [u8]| walk_in(
         rt, console, opened, walk, room,
     );
