@@ -6,7 +6,7 @@
 
 ghost use Rattle.std.specs.Prelude.{◌<◌};
 
-use numbers::field::{Number, Order, number_at, width_of};
+use numbers::field::{NumberError, Order, number_at, width_of};
 use numbers::offset::offset_at;
 use reading::load;
 use std::io;
@@ -45,9 +45,9 @@ fn question_in(line: &[u8; 32]) -> Question {
 fn show_unsigned(out: &mut impl Write, section: &[u8], question: Question) -> io::Result<()> {
     let Question { at, code, order } = question;
     match number_at(section, at, code, order) {
-        Number::Is(n) => write!(out, "{n} = 0x{n:x}"),
-        Number::Outside => write!(out, "outside"),
-        Number::NoWidth => write!(out, "no such width"),
+        Ok(n) => write!(out, "{n} = 0x{n:x}"),
+        Err(NumberError::Outside) => write!(out, "outside"),
+        Err(NumberError::NoWidth) => write!(out, "no such width"),
     }
 }
 

@@ -1,35 +1,35 @@
 // Why a lookup gives its answer, as a line.
 use crate::records::Record;
 use explain::looked::explain_lookup;
-use explain::why::{Coverers, FoundRow, Looked, LookupReason, Nearest, NotFound, RowStart};
+use explain::why::{Covered, Coverers, FoundRow, NotFound};
 use std::io::Write;
 use std::{fmt, io};
-use stored::Shown;
+use stored::{Broken, Shown};
 
-// Where a row starts.
+// Where a row starts, if there is one.
 #[derive(Clone, Copy)]
-struct Start(RowStart);
+struct Start(Option<u64>);
 
 impl fmt::Display for Start {
     fn fmt<W: fmt::Write>(&self, f: &mut fmt::Formatter<W>) -> fmt::Result {
         match self.0 {
-            RowStart::Is(start) => write!(f, "{start}"),
-            RowStart::Missing => f.write_str("none"),
+            Some(start) => write!(f, "{start}"),
+            None => f.write_str("none"),
         }
     }
 }
 
-// The covered address nearest on one side.
+// The covered address nearest on one side, if there is one.
 #[derive(Clone, Copy)]
-struct Near(Nearest);
+struct Near(Option<Covered>);
 
 impl fmt::Display for Near {
     fn fmt<W: fmt::Write>(&self, f: &mut fmt::Formatter<W>) -> fmt::Result {
         match self.0 {
-            Nearest::Covered { offset, function } => {
+            Some(Covered { offset, function }) => {
                 write!(f, "{:+} function {function}", offset.by)
             }
-            Nearest::Nothing => f.write_str("none"),
+            None => f.write_str("none"),
         }
     }
 }
@@ -81,12 +81,13 @@ pub fn show_not_found(out: &mut impl Write, why: NotFound, coverers: Coverers) -
 
 pub fn show_lookup(out: &mut impl Write, record: Record<'_>) -> io::Result<()> {
     let why = explain_lookup(record.section, record.process.section, record.registers.pc);
-    let coverers = why.coverers;
     write!(out, "lookup ")?;
-    match why.reason {
-        LookupReason::Unsound { number, index } => write!(out, "refused {number} at {index}")?,
-        LookupReason::Accepted(Looked::Found(found)) => show_found(out, found)?,
-        LookupReason::Accepted(Looked::NotFound(why)) => show_not_found(out, why, coverers)?,
+    match why {
+        Err(refusal) => write!(out, "refused {}", Broken(refusal))?,
+        Ok(why) => match why.looked {
+            Ok(found) => show_found(out, found)?,
+            Err(missing) => show_not_found(out, missing, why.coverers)?,
+        },
     }
     writeln!(out)
 }

@@ -1,13 +1,14 @@
 // Why a step gives its answer, as a line.
 use crate::lookups::{show_found, show_not_found};
 use crate::records::Record;
+use caller::place::Needed;
 use explain::stepped::explain_step;
 use explain::sums::{Sum, sum_of};
-use explain::why::{Needed, RowReason, StepReason};
+use explain::why::{RowReason, StepReason};
 use numbers::offset::Offset;
 use std::io::Write;
 use std::{fmt, io};
-use stored::Words;
+use stored::{Broken, Words};
 
 // A base and an offset, and their exact sum.
 #[derive(Clone, Copy)]
@@ -85,7 +86,7 @@ pub fn show_step(out: &mut impl Write, record: Record<'_>) -> io::Result<()> {
             out,
             "41 stack {stack:016x} length {length}"
         )?,
-        StepReason::Unsound { number, index } => write!(out, "refused {number} at {index}")?,
+        StepReason::Unsound(refusal) => write!(out, "refused {}", Broken(refusal))?,
         StepReason::NothingAsked => write!(out, "21 nothing asked")?,
         StepReason::NotFound { pc, why } => {
             write!(out, "at {pc:016x} ")?;

@@ -1,16 +1,16 @@
 // Verdicts and answers as lines of text.
-use accept::verdict::Verdict;
-use ask::answer::AskAnswer;
-use lookup::answer::{Answer, Outcome};
+use accept::verdict::Refusal;
+use ask::answer::{AskFound, AskRefusal};
+use lookup::answer::{Answer, Found, Unfound};
 use section::row::Row;
 use std::io;
 use std::io::Write;
-use stored::Shown;
+use stored::{Broken, Shown};
 
-pub fn show_verdict(out: &mut impl Write, verdict: Verdict) -> io::Result<()> {
+pub fn show_verdict(out: &mut impl Write, verdict: Result<(), Refusal>) -> io::Result<()> {
     match verdict {
-        Verdict::Accepted => writeln!(out, " accepted"),
-        Verdict::Refused { number, index } => writeln!(out, " refused {number} at {index}"),
+        Ok(()) => writeln!(out, " accepted"),
+        Err(refusal) => writeln!(out, " refused {}", Broken(refusal)),
     }
 }
 
@@ -22,48 +22,73 @@ fn show_found(out: &mut impl Write, row: Row, function: u64, number: u64) -> io:
     )
 }
 
-fn show_outcome(out: &mut impl Write, outcome: Outcome) -> io::Result<()> {
-    match outcome {
-        Outcome::Found {
-            row,
-            function,
-            number,
-        } => show_found(out, row, function, number),
-        Outcome::Unsound { number, index } => write!(out, " refused {number} at {index}"),
-        Outcome::NoFunction => write!(out, " refused 21"),
-        Outcome::Dispute { first, second } => write!(out, " refused 22 at {first} and {second}"),
-        Outcome::NoRow { function } => write!(out, " refused 23 at {function}"),
+// 21 to 23.
+fn show_unfound(out: &mut impl Write, unfound: Unfound) -> io::Result<()> {
+    match unfound {
+        Unfound::NoFunction => write!(out, " refused 21"),
+        Unfound::Dispute { first, second } => write!(out, " refused 22 at {first} and {second}"),
+        Unfound::NoRow { function } => write!(out, " refused 23 at {function}"),
     }
 }
 
-pub fn show_answer(out: &mut impl Write, answer: Answer) -> io::Result<()> {
-    let compared = answer.compared;
-    show_outcome(out, answer.outcome)?;
+fn show_outcome(out: &mut impl Write, outcome: Result<Found, Unfound>) -> io::Result<()> {
+    match outcome {
+        Ok(found) => show_found(out, found.row, found.function, found.number),
+        Err(unfound) => show_unfound(out, unfound),
+    }
+}
+
+// Nothing is compared in a section that is refused.
+pub fn show_answer(out: &mut impl Write, answer: Result<Answer, Refusal>) -> io::Result<()> {
+    let compared = match answer {
+        Ok(answer) => {
+            show_outcome(out, answer.outcome)?;
+            answer.compared
+        }
+        Err(refusal) => {
+            write!(out, " refused {}", Broken(refusal))?;
+            0
+        }
+    };
     writeln!(out, " compared {compared}")
 }
 
-// The answer to a question that was asked as one address of a section that is not checked whole.
-pub fn show_asked(out: &mut impl Write, answer: AskAnswer) -> io::Result<()> {
-    match answer {
-        AskAnswer::Found {
-            function,
-            compared,
-            number,
-            row,
-        } => {
-            show_found(out, row, function, number)?;
-            writeln!(out, " compared {compared}")
+// How many entries were compared before a refusal.
+fn show_ask_refusal(out: &mut impl Write, refusal: AskRefusal) -> io::Result<u64> {
+    match refusal {
+        AskRefusal::Unsound(rule) => {
+            write!(out, " refused {}", rule.number())?;
+            Ok(0)
         }
-        AskAnswer::Unsound(number) => writeln!(out, " refused {number} compared 0"),
-        AskAnswer::Unsorted => writeln!(out, " refused 45 compared 0"),
-        AskAnswer::NoFunction { compared } => writeln!(out, " refused 21 compared {compared}"),
-        AskAnswer::NoRow { function, compared } => {
-            writeln!(out, " refused 23 at {function} compared {compared}")
+        AskRefusal::Unsorted => {
+            write!(out, " refused 45")?;
+            Ok(0)
         }
-        AskAnswer::Damaged { function, compared } => {
-            writeln!(out, " refused 44 at {function} compared {compared}")
+        AskRefusal::NoFunction { compared } => {
+            show_unfound(out, Unfound::NoFunction)?;
+            Ok(compared)
+        }
+        AskRefusal::NoRow { function, compared } => {
+            show_unfound(out, Unfound::NoRow { function })?;
+            Ok(compared)
+        }
+        AskRefusal::Damaged { function, compared } => {
+            write!(out, " refused 44 at {function}")?;
+            Ok(compared)
         }
     }
+}
+
+// The answer to a question that was asked as one address of a section that is not checked whole.
+pub fn show_asked(out: &mut impl Write, answer: Result<AskFound, AskRefusal>) -> io::Result<()> {
+    let compared = match answer {
+        Ok(found) => {
+            show_found(out, found.row, found.function, found.number)?;
+            found.compared
+        }
+        Err(refusal) => show_ask_refusal(out, refusal)?,
+    };
+    writeln!(out, " compared {compared}")
 }
 
 pub fn show_question(out: &mut impl Write, address: u64, pc: u64) -> io::Result<()> {

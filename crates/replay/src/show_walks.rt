@@ -1,22 +1,38 @@
 // Steps and traces as lines of text.
 use crate::walks::Walk;
-use caller::registers::Step;
+use caller::registers::{Registers, StepCause, StepRefusal};
 use std::io::Write;
 use std::{fmt, io};
-use stored::Words;
-use trace::answer::{Ending, Traced};
+use stored::{Broken, Words};
+use trace::answer::{Ending, TraceRefusal, Traced};
 
-// Why a trace ended, by its number.
+// Why there is no caller, by its number.
 #[derive(Clone, Copy)]
-struct Ended(Ending);
+struct Caused(StepCause);
+
+impl fmt::Display for Caused {
+    fn fmt<W: fmt::Write>(&self, f: &mut fmt::Formatter<W>) -> fmt::Result {
+        match self.0 {
+            StepCause::Unsound(refusal) => write!(f, "{}", Broken(refusal)),
+            cause => write!(f, "{}", cause.number()),
+        }
+    }
+}
+
+// Why a trace ended, or there is none, by its number.
+#[derive(Clone, Copy)]
+struct Ended(Result<Traced, TraceRefusal>);
 
 impl fmt::Display for Ended {
     fn fmt<W: fmt::Write>(&self, f: &mut fmt::Formatter<W>) -> fmt::Result {
         match self.0 {
-            Ending::Outermost => write!(f, "30"),
-            Ending::Full => write!(f, "31"),
-            Ending::Refused(number) | Ending::Shut(number) => write!(f, "{number}"),
-            Ending::Unsound { number, index } => write!(f, "{number} at {index}"),
+            Ok(traced) => match traced.ending {
+                Ending::Outermost => f.write_str("30"),
+                Ending::Full => f.write_str("31"),
+                Ending::Refused(cause) => write!(f, "{}", Caused(cause)),
+            },
+            Err(TraceRefusal::Shut(fault)) => write!(f, "{}", fault.number()),
+            Err(TraceRefusal::Unsound(refusal)) => write!(f, "{}", Broken(refusal)),
         }
     }
 }
@@ -39,25 +55,26 @@ pub fn show_walk(out: &mut impl Write, walk: Walk<'_>) -> io::Result<()> {
     writeln!(out, " bytes {bytes} limit {limit} words {words}")
 }
 
-pub fn show_step(out: &mut impl Write, step: Step) -> io::Result<()> {
+pub fn show_step(out: &mut impl Write, step: Result<Registers, StepRefusal>) -> io::Result<()> {
     match step {
-        Step::Caller(caller) => writeln!(out, "    caller {}", Words(caller)),
-        Step::Unsound { old, number, index } => {
-            writeln!(out, "    refused {number} at {index} {}", Words(old))
+        Ok(caller) => writeln!(out, "    caller {}", Words(caller)),
+        Err(refusal) => {
+            let cause = Caused(refusal.cause);
+            let old = Words(refusal.old);
+            writeln!(out, "    refused {cause} {old}")
         }
-        Step::Refused { old, number } => writeln!(out, "    refused {number} {}", Words(old)),
     }
 }
 
 // A trace, how many words behind its frames hold what they held, and the frames, three words in a line.
 pub fn show_traced(
     out: &mut impl Write,
-    traced: Traced,
+    traced: Result<Traced, TraceRefusal>,
+    frames: u64,
     kept: usize,
     words: &[u64],
 ) -> io::Result<()> {
-    let frames = traced.frames;
-    let ending = Ended(traced.ending);
+    let ending = Ended(traced);
     writeln!(out, "    trace {frames} frames ending {ending} kept {kept}")?;
     let (lines, _) = words.as_chunks::<3>();
     for line in lines {

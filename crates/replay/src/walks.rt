@@ -57,14 +57,15 @@ fn make_trace(
         ..
     } = walk;
     let traced = trace(section, stack, process, registers, limit, buffer);
-    let written = (traced.frames as usize).saturating_mul(3).min(buffer.len());
+    let frames = traced.map_or(0, |traced| traced.frames);
+    let written = (frames as usize).saturating_mul(3).min(buffer.len());
     let kept = buffer
         .iter()
         .enumerate()
         .skip(written)
         .filter(|(k, word)| **word == before(*k))
         .count();
-    show_traced(out, traced, kept, &buffer[..written])
+    show_traced(out, traced, frames, kept, &buffer[..written])
 }
 
 fn make_walk(out: &mut impl Write, section: &[u8], walk: Walk<'_>) -> io::Result<()> {

@@ -71,10 +71,12 @@ fn given_at(
     written: Written,
 ) -> Option<u64> {
     let mut room = [0u8; ARGUMENT];
-    let length = rt.arg(i, &mut room).ok();
-    let number = length.and_then(|n| written.number_in(&room[..n]));
+    let (text, number) = match rt.arg(i, &mut room) {
+        Ok(n) => (&room[..n], written.number_in(&room[..n])),
+        Err(_) => (&room[..], None),
+    };
     if number.is_none() {
-        complain_of_number(console, name, written, &room[..length.unwrap_or(ARGUMENT)]);
+        complain_of_number(console, name, written, text);
     }
     number
 }

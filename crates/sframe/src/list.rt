@@ -6,9 +6,9 @@ use crate::say::{complain, note, say};
 use crate::status::{argument_count, tell_refused};
 use crate::text::Named;
 use accept::section_check::check;
-use accept::verdict::Verdict;
+use accept::verdict::Refusal;
 use listing::function::Kind;
-use listing::lines::{Cursor, FunctionLine, Line, NextLine, cursor_over, next_line};
+use listing::lines::{Cursor, FunctionLine, Line, cursor_over, next_line};
 use numbers::offset::{Shift, shift_of};
 use section::header::{Layout, layout_at};
 use section::row::{Place, Row};
@@ -143,24 +143,22 @@ fn show_line(console: &Console, abi: Abi, line: Line) {
     }
 }
 
+#[tactic(auto, using(listing::proofs::LinesLeft::yield_line))]
 fn show_lines(console: &Console, section: &[u8], abi: Abi, from: Cursor) {
     let mut cursor = from;
     loop {
         let turn = next_line(section, cursor);
-        let next = turn.next;
-        match next {
-            NextLine::NoMore => {
-                return;
-            }
-            NextLine::One(line) => {
-                show_line(console, abi, line);
-                cursor = turn.cursor;
-            }
-        }
+        let Some(line) = turn.next else {
+            return;
+        };
+        show_line(console, abi, line);
+        cursor = turn.cursor;
     }
 }
 
-fn show_refusal(console: &Console, number: u64, index: u64) {
+fn show_refusal(console: &Console, refusal: Refusal) {
+    let number = refusal.rule.number();
+    let index = refusal.index;
     tell_refused(console);
     say(console, format_args!("{number} {index}\n"));
     note(
@@ -176,43 +174,32 @@ fn complain_of_index(console: &Console, index: u64, functions: u64) {
     );
 }
 
-fn show_one(console: &Console, section: &[u8], layout: Layout, index: u64) {
+// All of a section, or one function of it.
+fn show_accepted(console: &Console, section: &[u8], layout: Layout, index: Option<u64>) {
     let abi = layout.abi;
-    if index < layout.functions as u64 {
-        show_lines(console, section, abi, cursor_over(index, 1));
-        return;
-    }
-    complain_of_index(console, index, layout.functions as u64);
-}
-
-// All of a section.
-fn list_all(console: &Console, section: &[u8]) {
-    match check(section) {
-        Verdict::Refused { number, index } => show_refusal(console, number, index),
-        Verdict::Accepted => {
-            let layout = layout_at(section);
-            let abi = layout.abi;
-            show_lines(console, section, abi, cursor_over(0, layout.functions));
+    let functions = layout.functions;
+    match index {
+        None => show_lines(console, section, abi, cursor_over(0, functions)),
+        Some(index) if index < functions as u64 => {
+            show_lines(console, section, abi, cursor_over(index, 1))
         }
+        Some(index) => complain_of_index(console, index, functions as u64),
     }
 }
 
-// One function.
-fn list_one(console: &Console, section: &[u8], index: u64) {
+#[tactic(auto, using(accept::proofs::AcceptedLaws::accepted_laws))]
+fn show_listing(console: &Console, section: &[u8], index: Option<u64>) {
     match check(section) {
-        Verdict::Refused {
-            number,
-            index: fault,
-        } => show_refusal(console, number, fault),
-        Verdict::Accepted => show_one(console, section, layout_at(section), index),
+        Err(refusal) => show_refusal(console, refusal),
+        Ok(()) => show_accepted(console, section, layout_at(section), index),
     }
 }
 
 // FILE alone, or FILE and INDEX.
 pub fn answer_list(rt: &impl Env, console: &Console, section: &[u8]) {
     if argument_count(rt) < 4 {
-        list_all(console, section);
+        show_listing(console, section, None);
     } else if let Some(index) = count_given(rt, console, 3, "INDEX") {
-        list_one(console, section, index);
+        show_listing(console, section, Some(index));
     }
 }

@@ -9,6 +9,7 @@ mod console;
 mod help;
 mod hints;
 mod list;
+mod meanings;
 mod refusals;
 mod rooms;
 mod say;

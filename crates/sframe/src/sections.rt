@@ -44,10 +44,9 @@ pub fn ask<R: Env + Files + Input>(rt: &R, console: &Console, question: Question
         complain_of_stack(rt, console);
         return;
     };
-    let Some(opened) = open_given(rt, console, 2, "sframe: FILE") else {
+    let Some(mut opened) = open_given(rt, console, 2, "sframe: FILE") else {
         return;
     };
-    let mut opened = opened;
     let attempt = |opened: &mut Opened<R::File>, room: &mut [u8]| {
         ask_in(rt, console, opened, question, left, room)
     };

@@ -1,15 +1,13 @@
 // Verdicts and the answers of a lookup as lines of text.
 use crate::console::Console;
 use crate::hints::hint_of_unlinked;
-use crate::refusals::{
-    Bounded, show_dispute, show_not_landed, show_refused, show_refused_at, show_unsound,
-};
+use crate::refusals::{Bounded, show_dispute, show_refused, show_refused_at, show_unsound};
 use crate::say::say;
 use crate::text::{Cfa, Count, Saved};
 use accept::section_check::check;
-use accept::verdict::Verdict;
-use ask::answer::AskAnswer;
-use lookup::answer::{Answer, Outcome};
+use accept::verdict::Refusal;
+use ask::answer::{AskFound, AskRefusal};
+use lookup::answer::{Answer, Found, Unfound};
 use section::header::{Layout, layout_at};
 use section::row::{Place, Row};
 use section::shape::Abi;
@@ -38,10 +36,11 @@ fn show_accepted(console: &Console, layout: Layout) {
 }
 
 // Whether a section is accepted, and what it holds.
+#[tactic(auto, using(accept::proofs::AcceptedLaws::accepted_laws))]
 pub fn show_verdict(console: &Console, section: &[u8]) {
     match check(section) {
-        Verdict::Accepted => show_accepted(console, layout_at(section)),
-        Verdict::Refused { number, index } => show_unsound(console, number, index),
+        Ok(()) => show_accepted(console, layout_at(section)),
+        Err(refusal) => show_unsound(console, refusal),
     }
 }
 
@@ -82,29 +81,22 @@ fn show_looked_up(console: &Console, pc: u64) {
     say(console, format_args!("looked up: {pc:016x}\n"));
 }
 
-fn show_disputed(console: &Console, section: &[u8], pc: u64, first: u64, second: u64) {
-    show_dispute(console, section, first, second);
+fn show_unfound(console: &Console, section: &[u8], pc: u64, unfound: Unfound) {
+    match unfound {
+        Unfound::NoFunction => show_refused(console, unfound),
+        Unfound::Dispute { first, second } => show_dispute(console, section, first, second),
+        Unfound::NoRow { function } => show_refused_at(console, section, unfound, function),
+    }
     show_looked_up(console, pc);
-    hint_of_unlinked(console, section);
+    if let Unfound::Dispute { .. } = unfound {
+        hint_of_unlinked(console, section);
+    }
 }
 
-fn show_outcome(console: &Console, section: &[u8], pc: u64, outcome: Outcome) {
+fn show_outcome(console: &Console, section: &[u8], pc: u64, outcome: Result<Found, Unfound>) {
     match outcome {
-        Outcome::Found {
-            row,
-            function,
-            number,
-        } => show_found(console, section, row, function, number),
-        Outcome::Unsound { number, index } => show_unsound(console, number, index),
-        Outcome::NoFunction => {
-            show_refused(console, 21);
-            show_looked_up(console, pc);
-        }
-        Outcome::Dispute { first, second } => show_disputed(console, section, pc, first, second),
-        Outcome::NoRow { function } => {
-            show_refused_at(console, section, 23, function);
-            show_looked_up(console, pc);
-        }
+        Ok(found) => show_found(console, section, found.row, found.function, found.number),
+        Err(unfound) => show_unfound(console, section, pc, unfound),
     }
 }
 
@@ -112,56 +104,52 @@ fn show_compared(console: &Console, compared: u64) {
     say(console, format_args!("entries compared: {compared}\n"));
 }
 
-pub fn show_answer(console: &Console, section: &[u8], pc: u64, answer: Answer) {
-    let outcome = answer.outcome;
-    show_outcome(console, section, pc, outcome);
-    show_compared(console, answer.compared);
-}
-
-// What was landed on, and what is refused there.
-fn show_landed(
-    console: &Console,
-    section: &[u8],
-    pc: u64,
-    number: u64,
-    function: u64,
-    compared: u64,
-) {
-    show_refused_at(console, section, number, function);
-    show_looked_up(console, pc);
-    show_compared(console, compared);
-}
-
-// A refusal by the header, where nothing was compared.
-fn show_unasked(console: &Console, number: u64) {
-    show_refused(console, number);
-    show_compared(console, 0);
-}
-
-// The answer of an asked address.
-pub fn show_asked(console: &Console, section: &[u8], pc: u64, answer: AskAnswer) {
+// In a section that is refused nothing was compared.
+pub fn show_answer(console: &Console, section: &[u8], pc: u64, answer: Result<Answer, Refusal>) {
     match answer {
-        AskAnswer::Found {
-            function,
-            compared,
-            number,
-            row,
-        } => {
-            show_found(console, section, row, function, number);
-            show_compared(console, compared);
+        Ok(answer) => {
+            show_outcome(console, section, pc, answer.outcome);
+            show_compared(console, answer.compared);
         }
-        AskAnswer::Unsound(number) => show_unasked(console, number),
-        AskAnswer::Unsorted => show_unasked(console, 45),
-        AskAnswer::NoFunction { compared } => {
-            show_not_landed(console);
+        Err(refusal) => {
+            show_unsound(console, refusal);
+            show_compared(console, 0);
+        }
+    }
+}
+
+// A refusal by the header, where nothing was compared, or by what was landed on.
+fn show_ask_refusal(console: &Console, section: &[u8], pc: u64, refusal: AskRefusal) {
+    match refusal {
+        AskRefusal::Unsound(_) | AskRefusal::Unsorted => {
+            show_refused(console, refusal);
+            show_compared(console, 0);
+        }
+        AskRefusal::NoFunction { compared } => {
+            show_refused(console, refusal);
             show_looked_up(console, pc);
             show_compared(console, compared);
         }
-        AskAnswer::NoRow { function, compared } => {
-            show_landed(console, section, pc, 23, function, compared)
+        AskRefusal::NoRow { function, compared } | AskRefusal::Damaged { function, compared } => {
+            show_refused_at(console, section, refusal, function);
+            show_looked_up(console, pc);
+            show_compared(console, compared);
         }
-        AskAnswer::Damaged { function, compared } => {
-            show_landed(console, section, pc, 44, function, compared)
+    }
+}
+
+// The answer of an asked address.
+pub fn show_asked(
+    console: &Console,
+    section: &[u8],
+    pc: u64,
+    answer: Result<AskFound, AskRefusal>,
+) {
+    match answer {
+        Ok(found) => {
+            show_found(console, section, found.row, found.function, found.number);
+            show_compared(console, found.compared);
         }
+        Err(refusal) => show_ask_refusal(console, section, pc, refusal),
     }
 }

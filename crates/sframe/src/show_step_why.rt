@@ -7,10 +7,11 @@ use crate::show_why::{
     show_distance, show_found_why, show_not_found, show_not_found_why, show_unsound_why,
 };
 use crate::text::{Count, Moved, Named};
-use caller::registers::{Process, Registers};
+use caller::place::Needed;
+use caller::registers::{Process, Registers, StepCause};
 use explain::stepped::explain_step;
 use explain::sums::{Sum, sum_of};
-use explain::why::{Needed, RowReason, StepReason};
+use explain::why::{RowReason, StepReason};
 use numbers::offset::Offset;
 use section::row::{Place, Row};
 use std::fmt;
@@ -18,7 +19,7 @@ use std::fmt;
 // 41. The end of the window is above 2^64, which is no u64: what is told is by how much.
 fn show_window_why(console: &Console, stack: u64, length: u64) {
     let excess = length.saturating_sub(u64::MAX - stack).saturating_sub(1);
-    show_refused(console, 41);
+    show_refused(console, StepCause::Window);
     say(
         console,
         format_args!(
@@ -29,7 +30,7 @@ fn show_window_why(console: &Console, stack: u64, length: u64) {
 
 // 21 of PC 0 without the mark.
 fn show_nothing_asked(console: &Console) {
-    show_refused(console, 21);
+    show_refused(console, StepCause::NoFunction);
     say(
         console,
         "  nothing is looked up, since PC is 0 and there is no first-frame mark (SPECIFICATION 5.13)\n",
@@ -201,11 +202,11 @@ fn show_caller_why(console: &Console, row: Row, mask: u64, caller: Registers, cf
 fn show_reason(console: &Console, reason: RowReason) {
     match reason {
         RowReason::Caller { caller, .. } => show_caller(console, caller),
-        RowReason::Signed { .. } => show_refused(console, 24),
-        RowReason::CfaOutside { .. } => show_refused(console, 25),
-        RowReason::CfaLow { .. } => show_refused(console, 26),
-        RowReason::RaLost { .. } => show_refused(console, 27),
-        RowReason::WordOutside { .. } => show_refused(console, 28),
+        RowReason::Signed { .. } => show_refused(console, StepCause::Signed),
+        RowReason::CfaOutside { .. } => show_refused(console, StepCause::CfaOutside),
+        RowReason::CfaLow { .. } => show_refused(console, StepCause::CfaLow),
+        RowReason::RaLost { .. } => show_refused(console, StepCause::RaLost),
+        RowReason::WordOutside { .. } => show_refused(console, StepCause::WordOutside),
     }
 }
 
@@ -255,7 +256,7 @@ pub fn show_step_why(
     let first = registers.first;
     match why.reason {
         StepReason::Window { stack, length } => show_window_why(console, stack, length),
-        StepReason::Unsound { number, index } => show_unsound_why(console, number, index),
+        StepReason::Unsound(refusal) => show_unsound_why(console, refusal),
         StepReason::NothingAsked => show_nothing_asked(console),
         StepReason::NotFound { pc, why } => {
             show_not_found(console, why);

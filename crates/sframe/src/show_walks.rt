@@ -4,8 +4,8 @@ use crate::hints::hint_of_unlinked;
 use crate::refusals::{show_ended, show_refused, show_unsound};
 use crate::say::say;
 use crate::status::tell_refused;
-use caller::registers::{Asked, Registers, Step, asked_of};
-use trace::answer::{Ending, Traced};
+use caller::registers::{Registers, StepCause, StepRefusal, asked_of};
+use trace::answer::{Ending, TraceRefusal, Traced};
 use trace::walk::in_force;
 
 pub fn show_caller(console: &Console, caller: Registers) {
@@ -17,37 +17,38 @@ pub fn show_caller(console: &Console, caller: Registers) {
 }
 
 // With 21, 22 and 23 the PC that a step from these registers looked up: without the mark it stands nowhere else.
-fn show_looked_up(console: &Console, number: u64, registers: Registers) {
-    if !matches!(number, 21..=23) {
-        return;
-    }
+fn show_looked_up(console: &Console, registers: Registers) {
     match asked_of(registers) {
-        Asked::At(pc) => say(console, format_args!("looked up: {pc:016x}\n")),
-        Asked::Nowhere => say(
+        Some(pc) => say(console, format_args!("looked up: {pc:016x}\n")),
+        None => say(
             console,
             "looked up: nothing, since PC is 0 without the first-frame mark\n",
         ),
     }
 }
 
-// 22 of a section that is not linked.
-fn hint_of_number(console: &Console, section: &[u8], number: u64) {
-    if number == 22 {
-        hint_of_unlinked(console, section);
+// What stands below a refused step, by the registers that it starts from. 22 may be of a section that is not linked.
+fn show_cause(console: &Console, section: &[u8], registers: Registers, cause: StepCause) {
+    match cause {
+        StepCause::NoFunction | StepCause::NoRow => show_looked_up(console, registers),
+        StepCause::Dispute => {
+            show_looked_up(console, registers);
+            hint_of_unlinked(console, section);
+        }
+        _ => {}
     }
 }
 
-fn show_refused_step(console: &Console, section: &[u8], old: Registers, number: u64) {
-    show_refused(console, number);
-    show_looked_up(console, number, old);
-    hint_of_number(console, section, number);
-}
-
-pub fn show_step(console: &Console, section: &[u8], step: Step) {
+pub fn show_step(console: &Console, section: &[u8], step: Result<Registers, StepRefusal>) {
     match step {
-        Step::Caller(caller) => show_caller(console, caller),
-        Step::Unsound { old, number, index } => show_unsound(console, number, index),
-        Step::Refused { old, number } => show_refused_step(console, section, old, number),
+        Ok(caller) => show_caller(console, caller),
+        Err(StepRefusal { old, cause }) => match cause {
+            StepCause::Unsound(refusal) => show_unsound(console, refusal),
+            _ => {
+                show_refused(console, cause);
+                show_cause(console, section, old, cause);
+            }
+        },
     }
 }
 
@@ -69,15 +70,6 @@ fn show_table(console: &Console, crash: u64, words: &[u64]) {
     }
 }
 
-// A trace that was made: its frames, if there are any, and why it ended.
-fn show_frames(console: &Console, crash: u64, words: &[u64], frames: u64, number: u64) {
-    if 0 < frames {
-        show_table(console, crash, words);
-    }
-    say(console, format_args!("frames: {frames}\n"));
-    show_ended(console, number);
-}
-
 // The registers that the next step behind these frames starts from, as far as they tell what it looks up: those of the crash, with
 // the mark; or the last frame's RA, without it.
 fn next_from(crash: Registers, words: &[u64]) -> Registers {
@@ -92,29 +84,12 @@ fn next_from(crash: Registers, words: &[u64]) -> Registers {
 }
 
 // Where the walk stood when it met its ending: a PC that is no frame's any more.
-fn show_met(console: &Console, section: &[u8], next: Registers, number: u64) {
+fn show_met(console: &Console, section: &[u8], next: Registers, cause: StepCause) {
     say(console, format_args!("at PC: {:016x}\n", next.pc));
-    show_looked_up(console, number, next);
-    hint_of_number(console, section, number);
+    show_cause(console, section, next, cause);
 }
 
-// A trace without a frame gives nothing of what was asked for.
-fn show_refused_trace(
-    console: &Console,
-    section: &[u8],
-    crash: Registers,
-    words: &[u64],
-    frames: u64,
-    number: u64,
-) {
-    show_frames(console, crash.pc, words, frames, number);
-    show_met(console, section, next_from(crash, words), number);
-    if frames == 0 {
-        tell_refused(console);
-    }
-}
-
-// A trace by where it began, its answer and the words of its frames. 41 to 43 refuse it before any frame.
+// A trace by where it began, its answer and the words of its frames. One without a frame gives nothing of what was asked for.
 pub fn show_trace(
     console: &Console,
     section: &[u8],
@@ -122,20 +97,25 @@ pub fn show_trace(
     traced: Traced,
     words: &[u64],
 ) {
-    let ending = traced.ending;
-    match ending {
-        Ending::Outermost => show_frames(console, crash.pc, words, traced.frames, 30),
-        Ending::Full => show_frames(console, crash.pc, words, traced.frames, 31),
-        Ending::Refused(number) => show_refused_trace(
-            console,
-            section,
-            crash,
-            words,
-            traced.frames,
-            number,
-        ),
-        Ending::Shut(number) => show_refused(console, number),
-        Ending::Unsound { number, index } => show_unsound(console, number, index),
+    let Traced { ending, frames } = traced;
+    if 0 < frames {
+        show_table(console, crash.pc, words);
+    }
+    say(console, format_args!("frames: {frames}\n"));
+    show_ended(console, ending);
+    if let Ending::Refused(cause) = ending {
+        show_met(console, section, next_from(crash, words), cause);
+    }
+    if frames == 0 {
+        tell_refused(console);
+    }
+}
+
+// Why there is no trace.
+pub fn show_untraced(console: &Console, refusal: TraceRefusal) {
+    match refusal {
+        TraceRefusal::Shut(fault) => show_refused(console, fault),
+        TraceRefusal::Unsound(refusal) => show_unsound(console, refusal),
     }
 }
 

@@ -5,16 +5,18 @@ use crate::refusals::{show_refused, show_refused_in, show_unsound};
 use crate::say::say;
 use crate::show::show_which;
 use crate::text::{Cfa, Count, Distance, Saved};
+use accept::verdict::Refusal;
 use explain::looked::explain_lookup;
-use explain::why::{Coverers, FoundRow, Looked, LookupReason, Nearest, NotFound, RowStart};
-use listing::function::{Described, Facts, Kind, function_at};
+use explain::why::{Covered, Coverers, FoundRow, NotFound};
+use listing::function::{Kind, function_at};
 use numbers::offset::{Shift, shift_of};
 use section::row::Row;
 use std::fmt;
 
 // 1 to 15. The rule of number N is 3.N.
-pub fn show_unsound_why(console: &Console, number: u64, index: u64) {
-    show_unsound(console, number, index);
+pub fn show_unsound_why(console: &Console, refusal: Refusal) {
+    let number = refusal.rule.number();
+    show_unsound(console, refusal);
     say(
         console,
         format_args!(
@@ -58,7 +60,11 @@ impl fmt::Display for Origin {
     }
 }
 
-fn show_covering(console: &Console, function: u64, offset: u64, facts: Facts) {
+// The one function that covers, and the offset used in it. An explanation names no function that is not there.
+fn show_function(console: &Console, section: &[u8], function: u64, offset: u64) {
+    let Ok(facts) = function_at(section, function) else {
+        return;
+    };
     let start = Distance(shift_of(facts.start));
     let size = Count(facts.size as u64, "byte");
     let origin = Origin(facts.kind);
@@ -74,23 +80,15 @@ fn show_covering(console: &Console, function: u64, offset: u64, facts: Facts) {
     );
 }
 
-// The one function that covers, and the offset used in it. An explanation names no function that is not there.
-fn show_function(console: &Console, section: &[u8], function: u64, offset: u64) {
-    match function_at(section, function) {
-        Described::Unsound(_) | Described::Unknown => {}
-        Described::Function(facts) => show_covering(console, function, offset, facts),
-    }
-}
-
-// Where the row behind the one used starts.
+// Where the row behind the one used starts, if there is one.
 #[derive(Clone, Copy)]
-struct Next(RowStart);
+struct Next(Option<u64>);
 
 impl fmt::Display for Next {
     fn fmt<W: fmt::Write>(&self, f: &mut fmt::Formatter<W>) -> fmt::Result {
         match self.0 {
-            RowStart::Is(start) => write!(f, "the next row starts at {start}, above it"),
-            RowStart::Missing => f.write_str("there is no next row"),
+            Some(start) => write!(f, "the next row starts at {start}, above it"),
+            None => f.write_str("there is no next row"),
         }
     }
 }
@@ -124,10 +122,10 @@ pub fn show_found_why(console: &Console, section: &[u8], found: FoundRow) {
     show_by_row(console, row);
 }
 
-// The covered address nearest on one side. The answer is whether there is one.
-fn show_near(console: &Console, side: &str, near: Nearest) -> bool {
+// The covered address nearest on one side, if there is one.
+fn show_near(console: &Console, side: &str, near: Option<Covered>) {
     match near {
-        Nearest::Covered { offset, function } => {
+        Some(Covered { offset, function }) => {
             let place = Distance(shift_of(offset));
             say(
                 console,
@@ -135,25 +133,23 @@ fn show_near(console: &Console, side: &str, near: Nearest) -> bool {
                     "  the nearest address {side} that a function covers is {place}, by function {function}\n"
                 ),
             );
-            true
         }
-        Nearest::Nothing => {
+        None => {
             say(
                 console,
                 format_args!("  no function covers an address {side}\n"),
             );
-            false
         }
     }
 }
 
 // 21, with what is not covered, by whether an address is covered on each side. In a step PC itself may be: the PC looked up is not.
-fn show_no_function(console: &Console, below: Nearest, above: Nearest) {
-    let below = show_near(console, "below", below);
-    let above = show_near(console, "above", above);
+fn show_no_function(console: &Console, below: Option<Covered>, above: Option<Covered>) {
+    show_near(console, "below", below);
+    show_near(console, "above", above);
     let uncovered = match (below, above) {
-        (true, true) => "nothing between is covered, the PC looked up included",
-        (false, false) => "nothing is covered",
+        (Some(_), Some(_)) => "nothing between is covered, the PC looked up included",
+        (None, None) => "nothing is covered",
         _ => "nothing up to it is covered, the PC looked up included",
     };
     say(
@@ -187,24 +183,23 @@ fn show_dispute_why(console: &Console, coverers: Coverers) {
 }
 
 // 23.
-fn show_first(console: &Console, first: RowStart) {
+fn show_first(console: &Console, first: Option<u64>) {
     match first {
-        RowStart::Is(start) => say(
+        Some(start) => say(
             console,
             format_args!(
                 "  its first row starts at {start}, above the offset used (SPECIFICATION 4.6)\n"
             ),
         ),
-        RowStart::Missing => say(console, "  it has no rows (SPECIFICATION 4.6)\n"),
+        None => say(console, "  it has no rows (SPECIFICATION 4.6)\n"),
     }
 }
 
 // 21 to 23, without the sentences.
 pub fn show_not_found(console: &Console, why: NotFound) {
     match why {
-        NotFound::NoFunction { .. } => show_refused(console, 21),
-        NotFound::Dispute => show_refused(console, 22),
-        NotFound::NoRow { function, .. } => show_refused_in(console, 23, function),
+        NotFound::NoRow { function, .. } => show_refused_in(console, why, function),
+        _ => show_refused(console, why),
     }
 }
 
@@ -228,19 +223,20 @@ pub fn show_not_found_why(console: &Console, section: &[u8], why: NotFound, cove
 }
 
 pub fn show_lookup_why(console: &Console, section: &[u8], address: u64, pc: u64) {
-    let why = explain_lookup(section, address, pc);
-    let coverers = why.coverers;
-    match why.reason {
-        LookupReason::Unsound { number, index } => show_unsound_why(console, number, index),
-        LookupReason::Accepted(Looked::Found(found)) => {
+    let why = match explain_lookup(section, address, pc) {
+        Ok(why) => why,
+        Err(refusal) => return show_unsound_why(console, refusal),
+    };
+    match why.looked {
+        Ok(found) => {
             show_which(console, found.row, found.function, found.number);
             show_distance(console, "PC", address, pc);
             show_found_why(console, section, found);
         }
-        LookupReason::Accepted(Looked::NotFound(why)) => {
-            show_not_found(console, why);
+        Err(missing) => {
+            show_not_found(console, missing);
             show_distance(console, "PC", address, pc);
-            show_not_found_why(console, section, why, coverers);
+            show_not_found_why(console, section, missing, why.coverers);
         }
     }
 }

@@ -40,10 +40,10 @@ fn is_heard(rt: &impl Env) -> bool {
 
 // Where nobody listens to what is written, there is nowhere to say so.
 fn tell(rt: &(impl Env + Files), digit: &[u8]) {
-    if is_heard(rt) {
-        if let Ok(mut file) = OpenOptions::new().append(true).open(rt, STATUS_FILE) {
-            let _ = file.write_all(digit);
-        }
+    if is_heard(rt)
+        && let Ok(mut file) = OpenOptions::new().append(true).open(rt, STATUS_FILE)
+    {
+        let _ = file.write_all(digit);
     }
 }
 

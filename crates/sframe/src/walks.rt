@@ -6,7 +6,7 @@ use crate::console::Console;
 use crate::rooms::{Long, Room, in_rooms, largest_within};
 use crate::say::complain;
 use crate::show_step_why::show_step_why;
-use crate::show_walks::{show_limit, show_step, show_trace};
+use crate::show_walks::{show_limit, show_step, show_trace, show_untraced};
 use crate::status::argument_count;
 use caller::registers::{Process, Registers};
 use std::rt::{Env, Files};
@@ -65,9 +65,13 @@ fn trace_from(
     limit: u64,
 ) {
     let mut buffer = [0u64; WORDS];
-    let traced = trace(section, stack, process, registers, limit, &mut buffer);
-    let written = (traced.frames as usize).saturating_mul(3).min(WORDS);
-    show_trace(console, section, registers, traced, &buffer[..written]);
+    match trace(section, stack, process, registers, limit, &mut buffer) {
+        Ok(traced) => {
+            let written = (traced.frames as usize).saturating_mul(3).min(WORDS);
+            show_trace(console, section, registers, traced, &buffer[..written]);
+        }
+        Err(refusal) => show_untraced(console, refusal),
+    }
     show_limit(console, limit);
 }
 
@@ -126,10 +130,9 @@ fn is_one_input(rt: &impl Env, console: &Console) -> bool {
 
 // In a room up to this one.
 fn walk_opened<R: Env + Files + Input>(rt: &R, console: &Console, walk: Walk<'_>, largest: Room) {
-    let Some(opened) = open_given(rt, console, 4, "sframe: STACK") else {
+    let Some(mut opened) = open_given(rt, console, 4, "sframe: STACK") else {
         return;
     };
-    let mut opened = opened;
     let attempt = |opened: &mut Opened<R::File>, room: &mut [u8]| walk_in(
         rt, console, opened, walk, room,
     );

@@ -1,9 +1,10 @@
-// What the stored cases of `replay` and `reasons` have in common: the words that they say where to begin by, and rows and registers as
-// the lines of what is expected show them.
+// What the stored cases of `replay` and `reasons` have in common: the words that they say where to begin by, and rows, registers and
+// broken rules as the lines of what is expected show them.
 #![tactic(auto)]
 
 ghost use Rattle.std.specs.Prelude.{◌+◌, ◌*◌, ◌≤◌, length};
 
+use accept::verdict::Refusal;
 use caller::registers::{Process, Registers};
 use numbers::field::{Order, u64_at};
 use section::row::{Base, Place, Row};
@@ -33,6 +34,18 @@ pub fn start_in(bytes: &[u8]) -> (Process, Registers)
         first: word_in(bytes, 7),
     };
     (process, registers)
+}
+
+// The rule that a section breaks, and the entry's index.
+#[derive(Clone, Copy)]
+pub struct Broken(pub Refusal);
+
+impl fmt::Display for Broken {
+    fn fmt<W: fmt::Write>(&self, f: &mut fmt::Formatter<W>) -> fmt::Result {
+        let number = self.0.rule.number();
+        let index = self.0.index;
+        write!(f, "{number} at {index}")
+    }
 }
 
 // Registers, in 16 hexadecimal digits each.
