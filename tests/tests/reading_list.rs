@@ -33,8 +33,11 @@ const OURS_TO_ASK: [&str; 6] = [
 ];
 
 /// What the files of the sixth list use to say what our contracts allow. The page names them.
-const OURS_TO_EXPLAIN: [&str; 2] =
-    ["crates/promises/specs/StatedContracts.antt", "crates/promises/specs/Determined.antt"];
+const OURS_TO_EXPLAIN: [&str; 3] = [
+    "crates/explain/specs/Told.antt",
+    "crates/promises/specs/StatedContracts.antt",
+    "crates/promises/specs/Determined.antt",
+];
 
 /// A row of a list: a file and its lines.
 #[derive(Debug, PartialEq)]

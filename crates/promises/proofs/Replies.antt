@@ -103,9 +103,10 @@ module _ (s : List ℕ) where
   looked-by : (address pc : ℕ) (v : Verdict) → verdict s ≡ v → (z : Result Answer Refusal) × (lookup_told z ≡ answer_after v (answer_of s address pc))
   unfolding answer_after answer_of answer
   looked-by address pc Accepted e =
-      let it = found-by (distance address pc) _ ((outcome_exactly_when s (distance address pc) e _).0 refl) in
-      (Ok (record { outcome = it.0; compared = (answer_of s address pc).compared }),
-      ap (λ o. record { outcome = o; compared = (answer_of s address pc).compared }) it.1)
+      let it = found-by (distance address pc) _ ((outcome_exactly_when s (distance address pc) e _).0 refl) in (
+        Ok (record { outcome = it.0; compared = (answer_of s address pc).compared }),
+        ap (λ o. record { outcome = o; compared = (answer_of s address pc).compared }) it.1,
+      )
   looked-by address pc (Refused number index) e =
       let rule = refused_by_a_rule s number index e in
       (Err (record { rule = rule.0; index = index }), ap (λ n. record { outcome = found.Unsound n index; compared = 0 }) (sym rule.1))
@@ -169,9 +170,10 @@ module _ (s stack : List ℕ) (process : Process) (registers : Registers) (limit
   walked-by frames ending.Full h = (Ok (record { ending = ends.Full; frames = length frames }), refl)
   walked-by frames (ending.Refused number) h =
       let own = h.walk.ends.2 in
-      let it = frame-of own.0 in
-      (Ok (record { ending = ends.Refused it.0; frames = length frames }),
-      ap (λ n. record { ending = ending.Refused n; frames = length frames }) (it.1 ∙ sym own.1))
+      let it = frame-of own.0 in (
+        Ok (record { ending = ends.Refused it.0; frames = length frames }),
+        ap (λ n. record { ending = ending.Refused n; frames = length frames }) (it.1 ∙ sym own.1),
+      )
   walked-by frames (ending.Shut number) h =
       rw h.0
       (⊎_elim
@@ -182,8 +184,10 @@ module _ (s stack : List ℕ) (process : Process) (registers : Registers) (limit
       h.1)
   walked-by frames (ending.Unsound number index) h =
       rw h.0
-      ((Err (shut.Unsound (record { rule = h.2; index = index })),
-      ap (λ n. record { ending = ending.Unsound n index; frames = 0 }) (sym h.3)))
+      ((
+        Err (shut.Unsound (record { rule = h.2; index = index })),
+        ap (λ n. record { ending = ending.Unsound n index; frames = 0 }) (sym h.3),
+      ))
 
   pub trace_replied : (z : Result Traced TraceRefusal) × (trace_told z ≡ (trace_of s stack process registers limit buffer).answer)
   unfolding trace_of traced traced_as
@@ -220,14 +224,15 @@ module _ (s stack : List ℕ) (process : Process) (registers : Registers) where
   unfolding checked_why unlooked_why
   checked-why-by Accepted e = asked-why-by (asked_of registers)
   checked-why-by (Refused number index) e =
-      let rule = refused_by_a_rule s number index e in
-      (record { reason = unsound_why (record { rule = rule.0; index = index }); coverers = no_coverers },
-      ap (λ n. record { reason = reason.Unsound n index; coverers = no_coverers }) (sym rule.1))
+      let rule = refused_by_a_rule s number index e in (
+        record { reason = unsound_why (record { rule = rule.0; index = index }); coverers = no_coverers },
+        ap (λ n. record { reason = reason.Unsound n index; coverers = no_coverers }) (sym rule.1),
+      )
 
   why-in : (fits : Bool) → (z : StepWhy) × (step_why_told z ≡ elim fits [
-      | true ↦ checked_why s stack process registers (verdict s)
-      | false ↦ unlooked_why (reason.Window process.stack (length stack))
-    ])
+    | true ↦ checked_why s stack process registers (verdict s)
+    | false ↦ unlooked_why (reason.Window process.stack (length stack))
+  ])
   unfolding unlooked_why
   why-in true = checked-why-by (verdict s) refl
   why-in false = (record { reason = window_why process.stack (length stack); coverers = no_coverers }, refl)

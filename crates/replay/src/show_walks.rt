@@ -29,7 +29,7 @@ impl fmt::Display for Ended {
             Ok(traced) => match traced.ending {
                 Ending::Outermost => f.write_str("30"),
                 Ending::Full => f.write_str("31"),
-                Ending::Refused(cause) => write!(f, "{}", Caused(cause)),
+                Ending::Refused(cause) => write!(f, "{}", cause.number()),
             },
             Err(TraceRefusal::Shut(fault)) => write!(f, "{}", fault.number()),
             Err(TraceRefusal::Unsound(refusal)) => write!(f, "{}", Broken(refusal)),

@@ -2,7 +2,7 @@
 // other number stands here alone.
 use accept::verdict::Rule;
 use ask::answer::AskRefusal;
-use caller::registers::StepCause;
+use caller::registers::{FrameCause, StepCause};
 use explain::why::NotFound;
 use lookup::answer::Unfound;
 use std::fmt;
@@ -48,19 +48,17 @@ impl From<Rule> for Meant {
     }
 }
 
-impl From<StepCause> for Meant {
-    fn from(cause: StepCause) -> Meant {
+impl From<FrameCause> for Meant {
+    fn from(cause: FrameCause) -> Meant {
         let meaning = match cause {
-            StepCause::Window => "the stack window ends above 2^64",
-            StepCause::Unsound(refusal) => return Meant::from(refusal.rule),
-            StepCause::NoFunction => "no function covers the PC",
-            StepCause::Dispute => "two or more functions cover the PC",
-            StepCause::NoRow => "no row of the function starts at or below the PC",
-            StepCause::Signed => "the return address is signed, and no mask says by which bits",
-            StepCause::CfaOutside => "CFA is outside 0 to 2^64 - 1",
-            StepCause::CfaLow => "CFA is below SP, or equal to it without the first-frame mark",
-            StepCause::RaLost => "RA has no place: only the first frame has it in LR",
-            StepCause::WordOutside => "a needed word is not wholly inside the stack window",
+            FrameCause::NoFunction => "no function covers the PC",
+            FrameCause::Dispute => "two or more functions cover the PC",
+            FrameCause::NoRow => "no row of the function starts at or below the PC",
+            FrameCause::Signed => "the return address is signed, and no mask says by which bits",
+            FrameCause::CfaOutside => "CFA is outside 0 to 2^64 - 1",
+            FrameCause::CfaLow => "CFA is below SP, or equal to it without the first-frame mark",
+            FrameCause::RaLost => "RA has no place: only the first frame has it in LR",
+            FrameCause::WordOutside => "a needed word is not wholly inside the stack window",
         };
         Meant {
             number: cause.number(),
@@ -69,13 +67,26 @@ impl From<StepCause> for Meant {
     }
 }
 
+impl From<StepCause> for Meant {
+    fn from(cause: StepCause) -> Meant {
+        match cause {
+            StepCause::Window => Meant {
+                number: cause.number(),
+                meaning: "the stack window ends above 2^64",
+            },
+            StepCause::Unsound(refusal) => Meant::from(refusal.rule),
+            StepCause::Frame(cause) => Meant::from(cause),
+        }
+    }
+}
+
 // What a lookup is refused with, a step is too.
 impl From<Unfound> for Meant {
     fn from(unfound: Unfound) -> Meant {
         match unfound {
-            Unfound::NoFunction => Meant::from(StepCause::NoFunction),
-            Unfound::Dispute { .. } => Meant::from(StepCause::Dispute),
-            Unfound::NoRow { .. } => Meant::from(StepCause::NoRow),
+            Unfound::NoFunction => Meant::from(FrameCause::NoFunction),
+            Unfound::Dispute { .. } => Meant::from(FrameCause::Dispute),
+            Unfound::NoRow { .. } => Meant::from(FrameCause::NoRow),
         }
     }
 }
@@ -83,9 +94,9 @@ impl From<Unfound> for Meant {
 impl From<NotFound> for Meant {
     fn from(why: NotFound) -> Meant {
         match why {
-            NotFound::NoFunction { .. } => Meant::from(StepCause::NoFunction),
-            NotFound::Dispute => Meant::from(StepCause::Dispute),
-            NotFound::NoRow { .. } => Meant::from(StepCause::NoRow),
+            NotFound::NoFunction { .. } => Meant::from(FrameCause::NoFunction),
+            NotFound::Dispute => Meant::from(FrameCause::Dispute),
+            NotFound::NoRow { .. } => Meant::from(FrameCause::NoRow),
         }
     }
 }
@@ -96,10 +107,10 @@ impl From<AskRefusal> for Meant {
         match refusal {
             AskRefusal::Unsound(rule) => Meant::from(rule),
             AskRefusal::NoFunction { .. } => Meant {
-                number: StepCause::NoFunction.number(),
+                number: FrameCause::NoFunction.number(),
                 meaning: "no function that covers the PC was landed on",
             },
-            AskRefusal::NoRow { .. } => Meant::from(StepCause::NoRow),
+            AskRefusal::NoRow { .. } => Meant::from(FrameCause::NoRow),
             AskRefusal::Damaged { .. } => Meant {
                 number: 44,
                 meaning: "the function landed on covers the PC and breaks one of the rules 9 to 13",

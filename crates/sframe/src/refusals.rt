@@ -5,7 +5,7 @@ use crate::say::say;
 use crate::status::tell_refused;
 use crate::text::Distance;
 use accept::verdict::{Refusal, Rule};
-use caller::registers::StepCause;
+use caller::registers::FrameCause;
 use listing::function::function_at;
 use numbers::offset::shift_of;
 use std::fmt;
@@ -81,7 +81,7 @@ pub fn show_refused_at(
 
 // 22, with the two lowest of the functions that cover.
 pub fn show_dispute(console: &Console, section: &[u8], first: u64, second: u64) {
-    let refusal = Meant::from(StepCause::Dispute);
+    let refusal = Meant::from(FrameCause::Dispute);
     let first = Bounded {
         section,
         function: first,

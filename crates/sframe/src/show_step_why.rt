@@ -8,7 +8,7 @@ use crate::show_why::{
 };
 use crate::text::{Count, Moved, Named};
 use caller::place::Needed;
-use caller::registers::{Process, Registers, StepCause};
+use caller::registers::{FrameCause, Process, Registers, StepCause};
 use explain::stepped::explain_step;
 use explain::sums::{Sum, sum_of};
 use explain::why::{RowReason, StepReason};
@@ -30,7 +30,7 @@ fn show_window_why(console: &Console, stack: u64, length: u64) {
 
 // 21 of PC 0 without the mark.
 fn show_nothing_asked(console: &Console) {
-    show_refused(console, StepCause::NoFunction);
+    show_refused(console, FrameCause::NoFunction);
     say(
         console,
         "  nothing is looked up, since PC is 0 and there is no first-frame mark (SPECIFICATION 5.13)\n",
@@ -202,11 +202,11 @@ fn show_caller_why(console: &Console, row: Row, mask: u64, caller: Registers, cf
 fn show_reason(console: &Console, reason: RowReason) {
     match reason {
         RowReason::Caller { caller, .. } => show_caller(console, caller),
-        RowReason::Signed { .. } => show_refused(console, StepCause::Signed),
-        RowReason::CfaOutside { .. } => show_refused(console, StepCause::CfaOutside),
-        RowReason::CfaLow { .. } => show_refused(console, StepCause::CfaLow),
-        RowReason::RaLost { .. } => show_refused(console, StepCause::RaLost),
-        RowReason::WordOutside { .. } => show_refused(console, StepCause::WordOutside),
+        RowReason::Signed { .. } => show_refused(console, FrameCause::Signed),
+        RowReason::CfaOutside { .. } => show_refused(console, FrameCause::CfaOutside),
+        RowReason::CfaLow { .. } => show_refused(console, FrameCause::CfaLow),
+        RowReason::RaLost { .. } => show_refused(console, FrameCause::RaLost),
+        RowReason::WordOutside { .. } => show_refused(console, FrameCause::WordOutside),
     }
 }
 

@@ -4,7 +4,7 @@ use crate::hints::hint_of_unlinked;
 use crate::refusals::{show_ended, show_refused, show_unsound};
 use crate::say::say;
 use crate::status::tell_refused;
-use caller::registers::{Registers, StepCause, StepRefusal, asked_of};
+use caller::registers::{FrameCause, Registers, StepCause, StepRefusal, asked_of};
 use trace::answer::{Ending, TraceRefusal, Traced};
 use trace::walk::in_force;
 
@@ -28,10 +28,10 @@ fn show_looked_up(console: &Console, registers: Registers) {
 }
 
 // What stands below a refused step, by the registers that it starts from. 22 may be of a section that is not linked.
-fn show_cause(console: &Console, section: &[u8], registers: Registers, cause: StepCause) {
+fn show_cause(console: &Console, section: &[u8], registers: Registers, cause: FrameCause) {
     match cause {
-        StepCause::NoFunction | StepCause::NoRow => show_looked_up(console, registers),
-        StepCause::Dispute => {
+        FrameCause::NoFunction | FrameCause::NoRow => show_looked_up(console, registers),
+        FrameCause::Dispute => {
             show_looked_up(console, registers);
             hint_of_unlinked(console, section);
         }
@@ -44,7 +44,8 @@ pub fn show_step(console: &Console, section: &[u8], step: Result<Registers, Step
         Ok(caller) => show_caller(console, caller),
         Err(StepRefusal { old, cause }) => match cause {
             StepCause::Unsound(refusal) => show_unsound(console, refusal),
-            _ => {
+            StepCause::Window => show_refused(console, cause),
+            StepCause::Frame(cause) => {
                 show_refused(console, cause);
                 show_cause(console, section, old, cause);
             }
@@ -84,7 +85,7 @@ fn next_from(crash: Registers, words: &[u64]) -> Registers {
 }
 
 // Where the walk stood when it met its ending: a PC that is no frame's any more.
-fn show_met(console: &Console, section: &[u8], next: Registers, cause: StepCause) {
+fn show_met(console: &Console, section: &[u8], next: Registers, cause: FrameCause) {
     say(console, format_args!("at PC: {:016x}\n", next.pc));
     show_cause(console, section, next, cause);
 }
