@@ -4,13 +4,12 @@ ghost use Rattle.std.specs.Prelude.{◌≡◌, ◌*◌, ◌^◌, ◌≤◌, ◌<
 ghost use Rattle.numbers.specs.Start.{distance};
 ghost use Rattle.numbers.specs.Inner.Held.{Near};
 ghost use Rattle.section.specs.Meaning.{entry_in, function_start};
-ghost use Rattle.lookup.specs.Inner.Requires.{HeaderOf, TableOf};
+ghost use Rattle.lookup.specs.Inner.Requires.{HeaderOf};
 ghost use Rattle.explain.specs.Computed.Nearest.{tried, nearest_in};
 ghost use Rattle.explain.specs.Inner.Keys.{side_key, key_by, better, held_of, nearest_of};
 
 use crate::why::Covered;
-use lookup::table::entry_in;
-use numbers::field::Order;
+use lookup::table::{Table, entry_in};
 use numbers::held::{FAR, LIFT, near_of};
 use numbers::offset::Offset;
 use section::entry::start_of;
@@ -59,13 +58,13 @@ fn key_of(side: Side, start: u64, size: u32, d: u64) -> u64
 
 // The key of function i.
 #[tactic(auto, using(crate::proofs::KeyLaws::key_small, crate::proofs::KeyLaws::key_tried))]
-fn key_at(section: &[u8], layout: Layout, order: Order, side: Side, i: u64, d: u64) -> u64
-    requires { TableOf section.now layout order × (i < layout.functions) }
-    ensures i_value { (z : ℤ) (best : Best) → Near z d → best.key ≤ 2 ^ 34 → nearest_of side (better best result i) ≡ tried side z (function_start section.now i) (entry_in section.now i).size i (nearest_of side best) }
+fn key_at(table: Table<'_>, side: Side, i: u64, d: u64) -> u64
+    requires { i < table.layout.functions }
+    ensures i_value { (z : ℤ) (best : Best) → Near z d → best.key ≤ 2 ^ 34 → nearest_of side (better best result i) ≡ tried side z (function_start table.entry.section.now i) (entry_in table.entry.section.now i).size i (nearest_of side best) }
     ensures range { d ≤ 2 ^ 34 → result ≤ 2 ^ 34 }
 {
-    let entry = entry_in(section, layout, order, i);
-    key_of(side, start_of(layout.relative, entry), entry.size, d)
+    let entry = entry_in(table.section, table.layout, table.order, i);
+    key_of(side, start_of(table.layout.relative, entry), entry.size, d)
 }
 
 // A function with the same key comes too late: the lowest index stands.
@@ -81,17 +80,17 @@ fn better_of(best: Best, key: u64, i: u64) -> Best
 
 // The largest key of all functions.
 #[tactic(auto, using(crate::proofs::EachLaws::each_ends), unfolding(crate::specs::Computed::Nearest::nearest_in, crate::specs::Inner::Keys::nearest_of))]
-fn best_in(section: &[u8], layout: Layout, order: Order, side: Side, d: u64) -> Best
-    requires { TableOf section.now layout order × (d ≤ 2 ^ 34) }
-    ensures result_value { (z : ℤ) → Near z d → nearest_of side result ≡ nearest_in section.now side z }
+fn best_in(table: Table<'_>, side: Side, d: u64) -> Best
+    requires { d ≤ 2 ^ 34 }
+    ensures result_value { (z : ℤ) → Near z d → nearest_of side result ≡ nearest_in table.entry.section.now side z }
     ensures range { result.key ≤ 2 ^ 34 }
 {
     let mut best = Best {
         key: 0,
         function: 0,
     };
-    for i in 0..layout.functions as u64 {
-        best = better_of(best, key_at(section, layout, order, side, i, d), i);
+    for i in 0..table.layout.functions as u64 {
+        best = better_of(best, key_at(table, side, i, d), i);
     }
     best
 }
@@ -145,7 +144,11 @@ pub fn nearest_at(
     requires { HeaderOf section.now layout }
     ensures { result ≡ nearest_in section.now side (distance address pc) }
 {
-    let order = order_at(section);
-    let best = best_in(section, layout, order, side, near_of(address, pc));
+    let table = Table {
+        section,
+        layout,
+        order: order_at(section),
+    };
+    let best = best_in(table, side, near_of(address, pc));
     nearest_of(side, best)
 }

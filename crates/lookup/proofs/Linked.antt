@@ -33,6 +33,7 @@ use Rattle.lookup.proofs.TheLinks.lookup-search-covers_at as link-search-covers_
 use Rattle.lookup.proofs.TheLinks.lookup-search-landed_on as link-search-landed_on
 use Rattle.lookup.proofs.TheLinks.lookup-search-next_covering as link-search-next_covering
 use Rattle.lookup.proofs.TheLinks.lookup-search-scan as link-search-scan
+use Rattle.lookup.proofs.TheLinks.lookup-table-table_in as link-table-table_in
 use Rattle.lookup.proofs.TheLinks.lookup-search-find as link-search-find
 use Rattle.lookup.proofs.TheLinks.lookup-look-look as link-look-look
 use Rattle.lookup.proofs.TheLinks.lookup-look-lookup as link-look-lookup
@@ -66,6 +67,7 @@ entries more =
     ("lookup::search::landed_on", link-search-landed_on.entry) ∷
     ("lookup::search::next_covering", link-search-next_covering.entry) ∷
     ("lookup::search::scan", link-search-scan.entry) ∷
+    ("lookup::table::table_in", link-table-table_in.entry) ∷
     ("lookup::search::find", link-search-find.entry) ∷
     ("lookup::look::look", link-look-look.entry) ∷
     ("lookup::look::lookup", link-look-lookup.entry) ∷
@@ -99,6 +101,7 @@ pub record Finds (look : Symbol → Entry) : Type 0 where
   pub search_landed_on : look "lookup::search::landed_on" ≡ link-search-landed_on.entry
   pub search_next_covering : look "lookup::search::next_covering" ≡ link-search-next_covering.entry
   pub search_scan : look "lookup::search::scan" ≡ link-search-scan.entry
+  pub table_table_in : look "lookup::table::table_in" ≡ link-table-table_in.entry
   pub search_find : look "lookup::search::find" ≡ link-search-find.entry
   pub look_look : look "lookup::look::look" ≡ link-look-look.entry
   pub look_lookup : look "lookup::look::lookup" ≡ link-look-lookup.entry
@@ -176,8 +179,11 @@ module _ (look : Symbol → Entry) (in_numbers : numbers.Finds look) (in_section
   pub search_scan : HasT look false link-search-scan.code
   search_scan = link-search-scan.has look false here.search_scan search_next_covering
 
+  pub table_table_in : HasT look false link-table-table_in.code
+  table_table_in = link-table-table_in.has look false here.table_table_in (section.header_order_at look in_numbers in_section)
+
   pub search_find : HasT look false link-search-find.code
-  search_find = link-search-find.has look false here.search_find search_halve search_landed_on search_scan (numbers.held_near_of look in_numbers) (section.header_order_at look in_numbers in_section)
+  search_find = link-search-find.has look false here.search_find search_halve search_landed_on search_scan table_table_in (numbers.held_near_of look in_numbers)
 
   pub look_look : HasT look false link-look-look.code
   look_look = link-look-look.has look false here.look_look look_with_cover search_find
@@ -186,10 +192,10 @@ module _ (look : Symbol → Entry) (in_numbers : numbers.Finds look) (in_section
   look_lookup = link-look-lookup.has look false here.look_lookup (accept.section_check_check look in_numbers in_section in_accept) look_look (section.header_layout_at look in_numbers in_section)
 
   pub search_land : HasT look false link-search-land.code
-  search_land = link-search-land.has look false here.search_land search_halve (numbers.held_near_of look in_numbers) (section.header_order_at look in_numbers in_section)
+  search_land = link-search-land.has look false here.search_land search_halve table_table_in (numbers.held_near_of look in_numbers)
 
   pub search_past_within : HasT look false link-search-past_within.code
   search_past_within = link-search-past_within.has look false here.search_past_within search_past_start
 
   pub search_past_in : HasT look false link-search-past_in.code
-  search_past_in = link-search-past_in.has look false here.search_past_in search_past_within search_rank_at search_size_at (numbers.held_near_of look in_numbers) (section.header_order_at look in_numbers in_section)
+  search_past_in = link-search-past_in.has look false here.search_past_in search_past_within search_rank_at search_size_at table_table_in (numbers.held_near_of look in_numbers)

@@ -4,16 +4,17 @@ ghost use Rattle.std.specs.Prelude.{◌&&◌, ◌≡◌, ◌+◌, ◌-◌, ◌^�
 ghost use Rattle.std.specs.Int.Signed.{le_z, lt_z};
 ghost use Rattle.lookup.specs.Computed.Covering.{covers, covering, cover_of};
 ghost use Rattle.lookup.specs.Halving.{landing};
-ghost use Rattle.lookup.specs.Inner.Requires.{TableOf, HeaderOf};
+ghost use Rattle.lookup.specs.Inner.Requires.{HeaderOf};
 ghost use Rattle.lookup.specs.Inner.Search.{past_start, past_in, first_where, landed_on, search_of};
 ghost use Rattle.numbers.specs.Inner.Held.{Held, Near};
 ghost use Rattle.numbers.specs.Start.{distance};
 ghost use Rattle.section.specs.Meaning.{Function, entry_in, function_in, functions_of, function_start};
 
-use numbers::field::{Order, u32_at};
+use crate::table::{Table, table_in};
+use numbers::field::u32_at;
 use numbers::held::{near_of, rank_of};
 use section::entry::position_at;
-use section::header::{Layout, order_at};
+use section::header::Layout;
 
 // How the least field, -2^31, is held: 2^31.
 const LEAST: u64 = 0x8000_0000;
@@ -43,21 +44,22 @@ pub struct Landing {
 // ---- the fields of entry i: no other of its bytes is read
 
 // How far the start of function i is above the least field, -2^31. Of its entry only the start field is read.
-fn rank_at(section: &[u8], layout: Layout, order: Order, i: u64) -> u64
-    requires { TableOf section.now layout order × (i < layout.functions) }
-    ensures { Held (function_start section.now i) (result + 2 ^ 31) }
+fn rank_at(table: Table<'_>, i: u64) -> u64
+    requires { i < table.layout.functions }
+    ensures { Held (function_start table.entry.section.now i) (result + 2 ^ 31) }
 {
-    let place = (layout.table + 20 * i) as u32;
-    rank_of(u32_at(section, place as usize, order)) + position_at(layout.relative, place) as u64
+    let place = (table.layout.table + 20 * i) as u32;
+    rank_of(u32_at(table.section, place as usize, table.order))
+        + position_at(table.layout.relative, place) as u64
 }
 
 // The size of function i. Of its entry only this field is read.
-fn size_at(section: &[u8], layout: Layout, order: Order, i: u64) -> u32
-    requires { TableOf section.now layout order × (i < layout.functions) }
-    ensures { result ≡ (entry_in section.now i).size }
+fn size_at(table: Table<'_>, i: u64) -> u32
+    requires { i < table.layout.functions }
+    ensures { result ≡ (entry_in table.entry.section.now i).size }
 {
-    let at = (layout.table + 20 * i) as usize;
-    u32_at(section, at + 4, order)
+    let at = (table.layout.table + 20 * i) as usize;
+    u32_at(table.section, at + 4, table.order)
 }
 
 // ---- scanning: entry after entry is compared, none twice
@@ -82,23 +84,23 @@ fn is_within(start: u64, size: u32, d: u64) -> bool
 }
 
 // Whether function i covers.
-fn covers_at(section: &[u8], layout: Layout, order: Order, i: u64, d: u64) -> bool
-    requires { TableOf section.now layout order × (i < layout.functions) }
-    ensures { (z : ℤ) → Near z d → result ≡ covers z (function_in section.now i) }
+fn covers_at(table: Table<'_>, i: u64, d: u64) -> bool
+    requires { i < table.layout.functions }
+    ensures { (z : ℤ) → Near z d → result ≡ covers z (function_in table.entry.section.now i) }
 {
-    let start = rank_at(section, layout, order, i) + LEAST;
-    is_within(start, size_at(section, layout, order, i), d)
+    let start = rank_at(table, i) + LEAST;
+    is_within(start, size_at(table, i), d)
 }
 
 // The first function from index `from` on that covers, and one past the last where none does.
-fn next_covering(section: &[u8], layout: Layout, order: Order, d: u64, from: u64) -> u64
-    requires { TableOf section.now layout order × (from ≤ layout.functions) }
-    ensures value { (z : ℤ) → Near z d → result ≡ first_where (λ i. covers z (function_in section.now i)) (layout.functions - from) from }
-    ensures range { result ≤ layout.functions }
+fn next_covering(table: Table<'_>, d: u64, from: u64) -> u64
+    requires { from ≤ table.layout.functions }
+    ensures value { (z : ℤ) → Near z d → result ≡ first_where (λ i. covers z (function_in table.entry.section.now i)) (table.entry.layout.functions - from) from }
+    ensures range { result ≤ table.entry.layout.functions }
 {
-    let end = layout.functions as u64;
+    let end = table.layout.functions as u64;
     for i in from..end {
-        if covers_at(section, layout, order, i, d) {
+        if covers_at(table, i, d) {
             return i;
         }
     }
@@ -106,16 +108,15 @@ fn next_covering(section: &[u8], layout: Layout, order: Order, d: u64, from: u64
 }
 
 // The lowest two that cover, if so many do.
-fn scan(section: &[u8], layout: Layout, order: Order, d: u64) -> Cover
-    requires { TableOf section.now layout order }
-    ensures { (z : ℤ) → Near z d → result ≡ cover_of (covering z (functions_of section.now)) }
+fn scan(table: Table<'_>, d: u64) -> Cover
+    ensures { (z : ℤ) → Near z d → result ≡ cover_of (covering z (functions_of table.entry.section.now)) }
 {
-    let first = next_covering(section, layout, order, d, 0);
-    if first == layout.functions as u64 {
+    let first = next_covering(table, d, 0);
+    if first == table.layout.functions as u64 {
         return Cover::Nobody;
     }
-    let second = next_covering(section, layout, order, d, first + 1);
-    if second == layout.functions as u64 {
+    let second = next_covering(table, d, first + 1);
+    if second == table.layout.functions as u64 {
         return Cover::One(first);
     }
     Cover::Two(first, second)
@@ -135,19 +136,18 @@ fn bound_of(d: u64) -> u64
 
 // The halving rule over all entries. It is inlined at both of its calls, since a call would cost each frame of a trace.
 #[inline(always)]
-fn halve(section: &[u8], layout: Layout, order: Order, d: u64) -> Landing
-    requires { TableOf section.now layout order }
-    ensures value { (z : ℤ) → Near z d → result ≡ landing z (functions_of section.now) }
-    ensures range { result.low ≤ layout.functions }
+fn halve(table: Table<'_>, d: u64) -> Landing
+    ensures value { (z : ℤ) → Near z d → result ≡ landing z (functions_of table.entry.section.now) }
+    ensures range { result.low ≤ table.entry.layout.functions }
 {
     let bound = bound_of(d);
     let mut low = 0;
-    let mut high = layout.functions as u64;
+    let mut high = table.layout.functions as u64;
     let mut compared = 0;
     while low < high {
         let middle = (low + high) / 2;
         compared += 1;
-        if rank_at(section, layout, order, middle) < bound {
+        if rank_at(table, middle) < bound {
             low = middle + 1;
         } else {
             high = middle;
@@ -157,14 +157,14 @@ fn halve(section: &[u8], layout: Layout, order: Order, d: u64) -> Landing
 }
 
 // Whether the function landed on, the one before `low`, covers. In a sorted section no other one can.
-fn landed_on(section: &[u8], layout: Layout, order: Order, low: u64, d: u64) -> Cover
-    requires { TableOf section.now layout order × (low ≤ layout.functions) }
-    ensures { (z : ℤ) → Near z d → result ≡ landed_on z (functions_of section.now) low }
+fn landed_on(table: Table<'_>, low: u64, d: u64) -> Cover
+    requires { low ≤ table.layout.functions }
+    ensures { (z : ℤ) → Near z d → result ≡ landed_on z (functions_of table.entry.section.now) low }
 {
     if low == 0 {
         return Cover::Nobody;
     }
-    if covers_at(section, layout, order, low - 1, d) {
+    if covers_at(table, low - 1, d) {
         return Cover::One(low - 1);
     }
     Cover::Nobody
@@ -176,7 +176,7 @@ pub fn land(section: &[u8], layout: Layout, address: u64, pc: u64) -> Landing
     ensures value { result ≡ landing (distance address pc) (functions_of section.now) }
     ensures range { result.low ≤ layout.functions }
 {
-    halve(section, layout, order_at(section), near_of(address, pc))
+    halve(table_in(section, layout), near_of(address, pc))
 }
 
 // How far d is past a start, where a function of this size covers; the start and d are held.
@@ -192,13 +192,9 @@ pub fn past_in(section: &[u8], layout: Layout, i: u64, address: u64, pc: u64) ->
     requires { HeaderOf section.now layout × (i < layout.functions) }
     ensures { result ≡ past_in (distance address pc) (function_in section.now i) }
 {
-    let order = order_at(section);
-    let start = rank_at(section, layout, order, i) + LEAST;
-    past_within(
-        start,
-        size_at(section, layout, order, i),
-        near_of(address, pc),
-    )
+    let table = table_in(section, layout);
+    let start = rank_at(table, i) + LEAST;
+    past_within(start, size_at(table, i), near_of(address, pc))
 }
 
 // The covering function for a PC: a sorted section is halved, any other is scanned.
@@ -206,17 +202,17 @@ pub fn find(section: &[u8], layout: Layout, address: u64, pc: u64) -> Search
     requires { HeaderOf section.now layout }
     ensures { result ≡ search_of layout.sorted (distance address pc) (functions_of section.now) }
 {
-    let order = order_at(section);
+    let table = table_in(section, layout);
     let d = near_of(address, pc);
     if layout.sorted {
-        let landing = halve(section, layout, order, d);
+        let landing = halve(table, d);
         return Search {
-            cover: landed_on(section, layout, order, landing.low, d),
+            cover: landed_on(table, landing.low, d),
             compared: landing.compared,
         };
     }
     Search {
-        cover: scan(section, layout, order, d),
+        cover: scan(table, d),
         compared: layout.functions as u64,
     }
 }

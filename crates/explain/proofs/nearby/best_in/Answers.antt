@@ -9,7 +9,7 @@ use Rattle.explain.proofs.nearby.best_in.Goals as goal
 pub loop-i-preserved : goal.loop-i-preserved
 loop-i-preserved c =
     let bounded = c.loop-i.invariant.0 in (
-      rw c.better_of-best.ensures (better_small _ _ _ bounded (c.key_at.ensures.range c.requires.1)),
+      rw c.better_of-best.ensures (better_small _ _ _ bounded (c.key_at.ensures.range c.requires)),
       λ z near.
           each_next _ _ _ c.loop-i-test.true
           (ap (nearest_of _) c.better_of-best.ensures ∙ c.key_at.ensures.i_value z _ near bounded)

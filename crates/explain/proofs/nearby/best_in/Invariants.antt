@@ -16,5 +16,5 @@ invariant-loop-i l =
     (l.best.key ≤ 2 ^ 34)
     × ((z : ℤ)
     → Near z l.d
-    → each (λ known j. tried l.side z (function_start l.section j) (entry_in l.section j).size j known) (l.layout.functions - l.i) l.i (nearest_of l.side l.best)
-    ≡ each (λ known j. tried l.side z (function_start l.section j) (entry_in l.section j).size j known) l.layout.functions 0 None)
+    → each (λ known j. tried l.side z (function_start l.table.section.now j) (entry_in l.table.section.now j).size j known) (l.table.layout.functions - l.i) l.i (nearest_of l.side l.best)
+    ≡ each (λ known j. tried l.side z (function_start l.table.section.now j) (entry_in l.table.section.now j).size j known) l.table.layout.functions 0 None)

@@ -8,7 +8,7 @@ use Rattle.lookup.proofs.HalvingTurns.{halving_begins, middle_within, goes_up, g
 use Rattle.lookup.proofs.search.halve.Goals as goal
 
 pub loop-low-init : goal.loop-low-init
-loop-low-init c = halving_begins _ c.requires.header
+loop-low-init c = halving_begins _ c.args.table.sound.header
 
 pub overflow_add-middle : goal.overflow_add-middle
 overflow_add-middle c =
@@ -19,7 +19,7 @@ pub overflow_add-compared : goal.overflow_add-compared
 overflow_add-compared c = let loop = c.loop-low in omega (arith, loop.invariant.spent, loop.invariant.few, c.loop-low-test.true)
 
 pub rank_at-requires : goal.rank_at-requires
-rank_at-requires c = (c.requires, middle_within c.loop-low.invariant c.loop-low-test.true)
+rank_at-requires c = middle_within c.loop-low.invariant c.loop-low-test.true
 
 pub overflow_add-low : goal.overflow_add-low
 overflow_add-low c =

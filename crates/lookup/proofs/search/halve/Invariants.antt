@@ -5,7 +5,7 @@ use Rattle.lookup.proofs.HalvingTurns.{Halved}
 use Rattle.lookup.proofs.search.halve.Given as goal
 
 abbrev pub invariant-loop-low : goal.invariant-loop-low
-invariant-loop-low l = Halved l.section l.layout.functions l.d l.low l.high l.compared
+invariant-loop-low l = Halved l.table.section.now l.table.layout.functions l.d l.low l.high l.compared
 
 abbrev pub decreases-loop-low : goal.decreases-loop-low
 decreases-loop-low l = l.high - l.low

@@ -11,8 +11,8 @@ use Rattle.lookup.proofs.search.landed_on.Goals.{Else-low-eq0, Start}
 above : (c : Else-low-eq0) → 0 < c.args.low
 above c = omega (arith, c.if-low-eq0.false)
 
-within : (c : Start) → c.args.low ≤ (layout_of c.args.section.now).functions
-within c = rw c.requires.0.header.layout_is at c.requires.1
+within : (c : Start) → c.args.low ≤ (layout_of c.args.table.section.now).functions
+within c = rw c.args.table.sound.header.layout_is at c.requires
 
 pub returns-then-low-eq0 : goal.returns-then-low-eq0
 returns-then-low-eq0 c z near = sym (landed_nowhere _ z _ c.if-low-eq0.true)

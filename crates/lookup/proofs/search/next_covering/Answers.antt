@@ -21,5 +21,5 @@ loop-i-preserved c =
 
 pub returns : goal.returns
 returns c =
-    let last : c.args.layout.functions ≡ c.loop-i.i = omega arith in
+    let last : c.args.table.layout.functions ≡ c.loop-i.i = omega arith in
     record { value = λ z near. last ∙ sym (first_end _ _ _ c.loop-i-test.false) ∙ c.loop-i.invariant z near; range = omega arith }

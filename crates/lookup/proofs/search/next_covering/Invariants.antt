@@ -13,5 +13,5 @@ abbrev pub invariant-loop-i : goal.invariant-loop-i
 invariant-loop-i l =
     (z : ℤ)
     → Near z l.d
-    → first_where (λ j. covers z (function_in l.section j)) (l.layout.functions - l.i) l.i
-    ≡ first_where (λ j. covers z (function_in l.section j)) (l.layout.functions - l.from) l.from
+    → first_where (λ j. covers z (function_in l.table.section.now j)) (l.table.layout.functions - l.i) l.i
+    ≡ first_where (λ j. covers z (function_in l.table.section.now j)) (l.table.layout.functions - l.from) l.from

@@ -10,16 +10,16 @@ use Rattle.lookup.proofs.TableLaws.{entry_room, entry_place, field_held}
 use Rattle.lookup.proofs.search.rank_at.Goals as goal
 
 pub overflow_add-place : goal.overflow_add-place
-overflow_add-place c = let pre = c.requires in omega (arith, entry_place pre.0.header _ pre.1)
+overflow_add-place c = omega (arith, entry_place c.args.table.sound.header _ c.requires)
 
 pub overflow_cast-place : goal.overflow_cast-place
-overflow_cast-place c = let pre = c.requires in omega (arith, entry_place pre.0.header _ pre.1)
+overflow_cast-place c = omega (arith, entry_place c.args.table.sound.header _ c.requires)
 
 pub overflow_cast-place-2 : goal.overflow_cast-place-2
-overflow_cast-place-2 c = let pre = c.requires in omega (arith, entry_place pre.0.header _ pre.1)
+overflow_cast-place-2 c = omega (arith, entry_place c.args.table.sound.header _ c.requires)
 
 pub u32_at-requires : goal.u32_at-requires
-u32_at-requires c = let pre = c.requires in omega (arith, entry_room pre.0.header _ pre.1)
+u32_at-requires c = omega (arith, entry_room c.args.table.sound.header _ c.requires)
 
 pub returns : goal.returns
 returns c =
@@ -27,4 +27,4 @@ returns c =
     let held = held_rank c.u32_at.result c.position_at.result (search rules) small in
     let same : c.rank_of.result + c.position_at.result + 2147483648
     ≡ rank c.u32_at.result + 2147483648 + c.position_at.result = omega (arith, c.rank_of.ensures.value) in
-    field_held c.requires.0 _ c.u32_at.ensures c.position_at.ensures (rw same held)
+    field_held c.args.table.sound _ c.u32_at.ensures c.position_at.ensures (rw same held)

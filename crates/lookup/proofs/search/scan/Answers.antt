@@ -12,40 +12,40 @@ use Rattle.lookup.specs.Computed.Covering.{covers}
 use Rattle.lookup.specs.Inner.Search.{first_where}
 use Rattle.lookup.proofs.ScanLaws.{scan_none, scan_one, scan_two}
 use Rattle.lookup.proofs.search.scan.Goals as goal
-use Rattle.lookup.proofs.search.scan.Goals.{After-next_covering-first, After-next_covering-second, Else-first-layout}
+use Rattle.lookup.proofs.search.scan.Goals.{After-next_covering-first, After-next_covering-second, Else-first-table}
 
 -- what was found first, and next
 first : (c : After-next_covering-first) (z : ℤ)
     → Near z c.args.d
-    → first_where (λ i. covers z (function_in c.args.section.now i)) ((layout_of c.args.section.now).functions - 0) 0
+    → first_where (λ i. covers z (function_in c.args.table.section.now i)) ((layout_of c.args.table.section.now).functions - 0) 0
     ≡ c.next_covering-first.result
-first c z near = sym (rw c.requires.header.layout_is at (c.next_covering-first.ensures.value z near))
+first c z near = sym (rw c.args.table.sound.header.layout_is at (c.next_covering-first.ensures.value z near))
 
-pub returns-then-first-layout : goal.returns-then-first-layout
-returns-then-first-layout c z near =
-    sym (scan_none _ z (first (goal.at.returns-then-first-layout c).After-next_covering-first z near ∙ (rw c.requires.header.layout_is at c.if-first-layout.true)))
+pub returns-then-first-table : goal.returns-then-first-table
+returns-then-first-table c z near =
+    sym (scan_none _ z (first (goal.at.returns-then-first-table c).After-next_covering-first z near ∙ (rw c.args.table.sound.header.layout_is at c.if-first-table.true)))
 
-below : (c : Else-first-layout)
-    → c.next_covering-first.result < (layout_of c.args.section.now).functions
+below : (c : Else-first-table)
+    → c.next_covering-first.result < (layout_of c.args.table.section.now).functions
 below c =
-    rw (← c.requires.header.layout_is) (omega (arith, c.next_covering-first.ensures.range, c.if-first-layout.false))
+    rw (← c.args.table.sound.header.layout_is) (omega (arith, c.next_covering-first.ensures.range, c.if-first-table.false))
 
 second : (c : After-next_covering-second) (z : ℤ)
     → Near z c.args.d
-    → first_where (λ i. covers z (function_in c.args.section.now i))
-    ((layout_of c.args.section.now).functions - suc c.next_covering-first.result)
+    → first_where (λ i. covers z (function_in c.args.table.section.now i))
+    ((layout_of c.args.table.section.now).functions - suc c.next_covering-first.result)
     (suc c.next_covering-first.result)
     ≡ c.next_covering-second.result
 second c z near =
-    sym (rw (c.requires.header.layout_is, add-one c.next_covering-first.result) at (c.next_covering-second.ensures.value z near))
+    sym (rw (c.args.table.sound.header.layout_is, add-one c.next_covering-first.result) at (c.next_covering-second.ensures.value z near))
 
-pub returns-then-second-layout : goal.returns-then-second-layout
-returns-then-second-layout c z near =
-    let none = rw c.requires.header.layout_is at c.if-second-layout.true in
-    sym (scan_one _ z _ (first (goal.at.returns-then-second-layout c).After-next_covering-first z near) (below (goal.at.returns-then-second-layout c).Else-first-layout) (second (goal.at.returns-then-second-layout c).After-next_covering-second z near ∙ none))
+pub returns-then-second-table : goal.returns-then-second-table
+returns-then-second-table c z near =
+    let none = rw c.args.table.sound.header.layout_is at c.if-second-table.true in
+    sym (scan_one _ z _ (first (goal.at.returns-then-second-table c).After-next_covering-first z near) (below (goal.at.returns-then-second-table c).Else-first-table) (second (goal.at.returns-then-second-table c).After-next_covering-second z near ∙ none))
 
 pub returns : goal.returns
 returns c z near =
-    let less : c.next_covering-second.result < (layout_of c.args.section.now).functions =
-    rw (← c.requires.header.layout_is) (omega (arith, c.next_covering-second.ensures.range, c.if-second-layout.false)) in
-    sym (scan_two _ z _ _ (first (goal.at.returns c).After-next_covering-first z near) (below (goal.at.returns c).Else-first-layout) (second (goal.at.returns c).After-next_covering-second z near) less)
+    let less : c.next_covering-second.result < (layout_of c.args.table.section.now).functions =
+    rw (← c.args.table.sound.header.layout_is) (omega (arith, c.next_covering-second.ensures.range, c.if-second-table.false)) in
+    sym (scan_two _ z _ _ (first (goal.at.returns c).After-next_covering-first z near) (below (goal.at.returns c).Else-first-table) (second (goal.at.returns c).After-next_covering-second z near) less)
