@@ -13,7 +13,6 @@ use caller::place::{Needed, is_lost, spot_of, value_at};
 use caller::registers::{Process, Registers, asked_of, base_value, caller_sp, cfa_of, is_low};
 use caller::signature::{clear, is_maskless, mask_of};
 use numbers::address::window_fits;
-use numbers::field::Order;
 use numbers::offset::Offset;
 use section::header::{Layout, layout_at};
 use section::row::{Place, Row};
@@ -30,144 +29,154 @@ fn fetched_at(offset: Offset, word: Option<u64>) -> Result<u64, Offset>
     }
 }
 
-#[tactic(auto, unfolding(crate::specs::Computed::Step::fetched_of))]
-fn fetch(
-    stack: &[u8],
-    lies: u64,
-    order: Order,
-    cfa: u64,
-    register: u64,
-    place: Place,
-) -> Result<u64, Offset>
-    ensures { result ≡ fetched_of stack.now lies order cfa register place }
-{
-    let spot = spot_of(cfa, place);
-    match place {
-        Place::Register => Ok(register),
-        Place::AtOffset(offset) => {
-            fetched_at(offset, value_at(stack, lies, order, register, spot))
+// What a step begins with, a row apart.
+#[derive(Clone, Copy)]
+struct Frame<'a> {
+    shape: Shape,
+    stack: &'a [u8],
+    process: Process,
+    registers: Registers,
+}
+
+impl Frame<'_> {
+    #[tactic(auto, unfolding(crate::specs::Computed::Step::fetched_of))]
+    fn fetch(self, cfa: u64, register: u64, place: Place) -> Result<u64, Offset>
+        ensures { result ≡ fetched_of self.entry.stack.now self.entry.process.stack self.entry.shape.order cfa register place }
+    {
+        let spot = spot_of(cfa, place);
+        match place {
+            Place::Register => Ok(register),
+            Place::AtOffset(offset) => fetched_at(
+                offset,
+                value_at(
+                    self.stack,
+                    self.process.stack,
+                    self.shape.order,
+                    register,
+                    spot,
+                ),
+            ),
         }
     }
-}
 
-// 28, of one word.
-#[tactic(auto, unfolding(crate::specs::Computed::Step::outside_why))]
-fn outside(word: Needed, cfa: u64, offset: Offset, stack: &[u8], lies: u64) -> RowReason
-    ensures { result ≡ outside_why word cfa offset stack.now lies }
-{
-    RowReason::WordOutside {
-        word,
-        cfa,
-        offset,
-        stack: lies,
-        length: stack.len() as u64,
+    // 28, of one word.
+    #[tactic(auto, unfolding(crate::specs::Computed::Step::outside_why))]
+    fn outside(self, word: Needed, cfa: u64, offset: Offset) -> RowReason
+        ensures { result ≡ outside_why word cfa offset self.entry.stack.now self.entry.process.stack }
+    {
+        RowReason::WordOutside {
+            word,
+            cfa,
+            offset,
+            stack: self.process.stack,
+            length: self.stack.len() as u64,
+        }
     }
-}
 
-// The caller, by RA as it was read and FP.
-#[tactic(auto, unfolding(crate::specs::Computed::Step::caller_why))]
-fn caller_of(registers: Registers, mask: u64, cfa: u64, ra: u64, fp: u64) -> RowReason
-    ensures { result ≡ caller_why registers mask cfa ra fp }
-{
-    RowReason::Caller {
-        caller: Registers {
-            pc: clear(mask, ra),
-            sp: caller_sp(cfa),
-            fp,
-            lr: registers.lr,
-            first: 0,
-        },
-        cfa,
-        ra,
+    // The caller, by RA as it was read and FP.
+    #[tactic(auto, unfolding(crate::specs::Computed::Step::caller_why))]
+    fn caller(self, mask: u64, cfa: u64, ra: u64, fp: u64) -> RowReason
+        ensures { result ≡ caller_why self.entry.registers mask cfa ra fp }
+    {
+        RowReason::Caller {
+            caller: Registers {
+                pc: clear(mask, ra),
+                sp: caller_sp(cfa),
+                fp,
+                lr: self.registers.lr,
+                first: 0,
+            },
+            cfa,
+            ra,
+        }
     }
-}
 
-// 28 of FP's word, or the caller.
-#[tactic(auto, unfolding(crate::specs::Computed::Step::with_ra))]
-fn with_ra(
-    registers: Registers,
-    stack: &[u8],
-    lies: u64,
-    mask: u64,
-    cfa: u64,
-    ra: u64,
-    fp: Result<u64, Offset>,
-) -> RowReason
-    ensures { result ≡ with_ra registers stack.now lies mask cfa ra fp }
-{
-    match fp {
-        Err(offset) => outside(Needed::Fp, cfa, offset, stack, lies),
-        Ok(value) => caller_of(registers, mask, cfa, ra, value),
+    // 28 of FP's word, or the caller.
+    #[tactic(auto, unfolding(crate::specs::Computed::Step::with_ra))]
+    fn with_ra(self, mask: u64, cfa: u64, ra: u64, fp: Result<u64, Offset>) -> RowReason
+        ensures { result ≡ with_ra self.entry.registers self.entry.stack.now self.entry.process.stack mask cfa ra fp }
+    {
+        match fp {
+            Err(offset) => self.outside(Needed::Fp, cfa, offset),
+            Ok(value) => self.caller(mask, cfa, ra, value),
+        }
     }
-}
 
-// RA's word is tried before FP's.
-#[tactic(auto, unfolding(crate::specs::Computed::Step::from_words))]
-fn from_words(
-    registers: Registers,
-    stack: &[u8],
-    lies: u64,
-    mask: u64,
-    cfa: u64,
-    ra: Result<u64, Offset>,
-    fp: Result<u64, Offset>,
-) -> RowReason
-    ensures { result ≡ from_words registers stack.now lies mask cfa ra fp }
-{
-    match ra {
-        Err(offset) => outside(Needed::Ra, cfa, offset, stack, lies),
-        Ok(value) => with_ra(registers, stack, lies, mask, cfa, value, fp),
+    // RA's word is tried before FP's.
+    #[tactic(auto, unfolding(crate::specs::Computed::Step::from_words))]
+    fn from_words(
+        self,
+        mask: u64,
+        cfa: u64,
+        ra: Result<u64, Offset>,
+        fp: Result<u64, Offset>,
+    ) -> RowReason
+        ensures { result ≡ from_words self.entry.registers self.entry.stack.now self.entry.process.stack mask cfa ra fp }
+    {
+        match ra {
+            Err(offset) => self.outside(Needed::Ra, cfa, offset),
+            Ok(value) => self.with_ra(mask, cfa, value, fp),
+        }
     }
-}
 
-// 27, then the words.
-#[tactic(auto, unfolding(crate::specs::Computed::Step::from_high))]
-fn from_high(
-    shape: Shape,
-    stack: &[u8],
-    process: Process,
-    registers: Registers,
-    row: Row,
-    cfa: u64,
-) -> RowReason
-    ensures { result ≡ from_high shape stack.now process registers row cfa }
-{
-    let ra = row.ra;
-    let fp = row.fp;
-    if is_lost(registers, spot_of(cfa, ra)) {
-        return RowReason::RaLost {
-            first: registers.first,
-        };
+    // 27, then the words.
+    #[tactic(auto, unfolding(crate::specs::Computed::Step::from_high))]
+    fn from_high(self, row: Row, cfa: u64) -> RowReason
+        ensures { result ≡ from_high self.entry.shape self.entry.stack.now self.entry.process self.entry.registers row cfa }
+    {
+        if is_lost(self.registers, spot_of(cfa, row.ra)) {
+            return RowReason::RaLost {
+                first: self.registers.first,
+            };
+        }
+        let ra = self.fetch(cfa, self.registers.lr, row.ra);
+        let fp = self.fetch(cfa, self.registers.fp, row.fp);
+        self.from_words(mask_of(self.shape, row, self.process), cfa, ra, fp)
     }
-    let order = shape.order;
-    let lies = process.stack;
-    let first = fetch(stack, lies, order, cfa, registers.lr, ra);
-    let second = fetch(stack, lies, order, cfa, registers.fp, fp);
-    let mask = mask_of(shape, row, process);
-    from_words(registers, stack, lies, mask, cfa, first, second)
-}
 
-// 26, then what follows.
-#[tactic(auto, unfolding(crate::specs::Computed::Step::from_cfa_why))]
-fn from_cfa(
-    shape: Shape,
-    stack: &[u8],
-    process: Process,
-    registers: Registers,
-    row: Row,
-    cfa: u64,
-) -> RowReason
-    ensures { result ≡ from_cfa_why shape stack.now process registers row cfa }
-{
-    let sp = caller_sp(cfa);
-    if is_low(registers, sp) {
-        return RowReason::CfaLow {
-            callersp: sp,
-            sp: registers.sp,
-            first: registers.first,
-        };
+    // 26, then what follows.
+    #[tactic(auto, unfolding(crate::specs::Computed::Step::from_cfa_why))]
+    fn from_cfa(self, row: Row, cfa: u64) -> RowReason
+        ensures { result ≡ from_cfa_why self.entry.shape self.entry.stack.now self.entry.process self.entry.registers row cfa }
+    {
+        let sp = caller_sp(cfa);
+        if is_low(self.registers, sp) {
+            return RowReason::CfaLow {
+                callersp: sp,
+                sp: self.registers.sp,
+                first: self.registers.first,
+            };
+        }
+        self.from_high(row, cfa)
     }
-    from_high(shape, stack, process, registers, row, cfa)
+
+    // The step from what was looked up at a PC.
+    #[tactic(auto, unfolding(crate::specs::Computed::Step::by_looked, crate::specs::Computed::Step::by_reason))]
+    fn by_looked(self, pc: u64, why: LookedWhy) -> StepWhy
+        ensures { step_why_told result ≡ by_looked self.entry.shape self.entry.stack.now self.entry.process self.entry.registers pc why }
+    {
+        let coverers = why.coverers;
+        match why.looked {
+            Err(missing) => StepWhy {
+                reason: StepReason::NotFound { pc, why: missing },
+                coverers,
+            },
+            Ok(found) => StepWhy {
+                reason: StepReason::FromRow {
+                    found,
+                    reason: explain_row(
+                        self.shape,
+                        self.stack,
+                        self.process,
+                        self.registers,
+                        found.row,
+                    ),
+                    pc,
+                },
+                coverers,
+            },
+        }
+    }
 }
 
 // What a row comes to, with no section at hand: 24, 25 and what follows.
@@ -194,39 +203,14 @@ pub fn explain_row(
             base: base_value(registers, base),
             offset,
         },
-        Some(cfa) => from_cfa(shape, stack, process, registers, row, cfa),
-    }
-}
-
-// The step from what was looked up at a PC.
-#[tactic(auto, unfolding(crate::specs::Computed::Step::by_looked, crate::specs::Computed::Step::by_reason))]
-fn by_looked(
-    shape: Shape,
-    stack: &[u8],
-    process: Process,
-    registers: Registers,
-    pc: u64,
-    why: LookedWhy,
-) -> StepWhy
-    ensures { step_why_told result ≡ by_looked shape stack.now process registers pc why }
-{
-    let looked = why.looked;
-    let coverers = why.coverers;
-    match looked {
-        Err(missing) => StepWhy {
-            reason: StepReason::NotFound { pc, why: missing },
-            coverers,
-        },
-        Ok(found) => {
-            let row = found.row;
-            StepWhy {
-                reason: StepReason::FromRow {
-                    found,
-                    reason: explain_row(shape, stack, process, registers, row),
-                    pc,
-                },
-                coverers,
-            }
+        Some(cfa) => {
+            let frame = Frame {
+                shape,
+                stack,
+                process,
+                registers,
+            };
+            frame.from_cfa(row, cfa)
         }
     }
 }
@@ -258,8 +242,13 @@ fn explain_checked(
         return unlooked(StepReason::NothingAsked);
     };
     let why = explain_look(section, layout, process.section, pc);
-    let abi = layout.abi;
-    by_looked(shape_of(abi), stack, process, registers, pc, why)
+    let frame = Frame {
+        shape: shape_of(layout.abi),
+        stack,
+        process,
+        registers,
+    };
+    frame.by_looked(pc, why)
 }
 
 // On any bytes, stack and registers: 41 and 1 to 15 first.
