@@ -12,7 +12,6 @@ use Rattle.accept.specs.Computed.Checks.{first_bad, and_then, given_at, then_try
 use Rattle.accept.specs.Fault.{Fault, Sound, Breaks}
 use Rattle.accept.specs.Verdict.{Verdict, Accepted, Refused}
 use Rattle.accept.proofs.Decides.{Decides, passes, fails, by_test_lem}
-use Rattle.accept.proofs.TableLaws.{test_true, test_false}
 
 pub sound_or_breaks : {number : ℕ} → Sound ≡ Breaks number → ⊥
 sound_or_breaks e = let z : ◌≡◌ {A = ℕ} 0 1 = cc in omega arith
@@ -43,10 +42,12 @@ FirstBroken (test ∷ tests) (P ∷ rules) number = ((number ≡ test.1) × ¬ P
 
 module _ {test : Bool} {P : Type 0} (number : ℕ) (tests : List (Bool × ℕ)) (d : Decides test P) where
   table-stop : ¬ P → first_bad ((test, number) ∷ tests) ≡ Breaks number
-  table-stop bad = test_true number tests (fails d bad)
+  unfolding first_bad
+  table-stop bad = rw (fails d bad)
 
   table-next : P → first_bad ((test, number) ∷ tests) ≡ first_bad tests
-  table-next good = test_false number tests (passes d good)
+  unfolding first_bad
+  table-next good = rw (passes d good)
 
 pub table_sound : {tests : List (Bool × ℕ)} {rules : List (Type 0)} → Table tests rules → (first_bad tests ≡ Sound) ↔ AllHold rules
 unfolding first_bad

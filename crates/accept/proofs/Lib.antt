@@ -11,7 +11,6 @@ pub mod Linked
 pub mod RowLaws
 pub mod RuleLaws
 pub mod SignedTests
-pub mod TableLaws
 pub mod ToldLaws
 pub mod TriedAgreement
 pub mod TurnLaws

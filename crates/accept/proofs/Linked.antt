@@ -11,8 +11,9 @@ use Rattle.numbers.proofs.Linked as numbers
 use Rattle.section.proofs.Linked as section
 use Rattle.accept.proofs.TheLinks.accept-entry_check-wrong_entry_info as link-entry_check-wrong_entry_info
 use Rattle.accept.proofs.TheLinks.accept-entry_check-wrong_repeat as link-entry_check-wrong_repeat
+use Rattle.accept.proofs.TheLinks.accept-entry_check-check_own as link-entry_check-check_own
 use Rattle.accept.proofs.TheLinks.accept-row_check-wrong_row_info as link-row_check-wrong_row_info
-use Rattle.accept.proofs.TheLinks.accept-row_check-check_row as link-row_check-check_row
+use Rattle.accept.proofs.TheLinks.accept-row_check-pass_row as link-row_check-pass_row
 use Rattle.accept.proofs.TheLinks.accept-row_check-walk_rows as link-row_check-walk_rows
 use Rattle.accept.proofs.TheLinks.accept-row_check-check_rows as link-row_check-check_rows
 use Rattle.accept.proofs.TheLinks.accept-entry_check-check_entry as link-entry_check-check_entry
@@ -37,8 +38,9 @@ abbrev pub entries : Entries → Entries
 entries more =
     ("accept::entry_check::wrong_entry_info", link-entry_check-wrong_entry_info.entry) ∷
     ("accept::entry_check::wrong_repeat", link-entry_check-wrong_repeat.entry) ∷
+    ("accept::entry_check::check_own", link-entry_check-check_own.entry) ∷
     ("accept::row_check::wrong_row_info", link-row_check-wrong_row_info.entry) ∷
-    ("accept::row_check::check_row", link-row_check-check_row.entry) ∷
+    ("accept::row_check::pass_row", link-row_check-pass_row.entry) ∷
     ("accept::row_check::walk_rows", link-row_check-walk_rows.entry) ∷
     ("accept::row_check::check_rows", link-row_check-check_rows.entry) ∷
     ("accept::entry_check::check_entry", link-entry_check-check_entry.entry) ∷
@@ -63,8 +65,9 @@ entries more =
 pub record Finds (look : Symbol → Entry) : Type 0 where
   pub entry_check_wrong_entry_info : look "accept::entry_check::wrong_entry_info" ≡ link-entry_check-wrong_entry_info.entry
   pub entry_check_wrong_repeat : look "accept::entry_check::wrong_repeat" ≡ link-entry_check-wrong_repeat.entry
+  pub entry_check_check_own : look "accept::entry_check::check_own" ≡ link-entry_check-check_own.entry
   pub row_check_wrong_row_info : look "accept::row_check::wrong_row_info" ≡ link-row_check-wrong_row_info.entry
-  pub row_check_check_row : look "accept::row_check::check_row" ≡ link-row_check-check_row.entry
+  pub row_check_pass_row : look "accept::row_check::pass_row" ≡ link-row_check-pass_row.entry
   pub row_check_walk_rows : look "accept::row_check::walk_rows" ≡ link-row_check-walk_rows.entry
   pub row_check_check_rows : look "accept::row_check::check_rows" ≡ link-row_check-check_rows.entry
   pub entry_check_check_entry : look "accept::entry_check::check_entry" ≡ link-entry_check-check_entry.entry
@@ -91,20 +94,23 @@ module _ (look : Symbol → Entry) (in_numbers : numbers.Finds look) (in_section
   pub entry_check_wrong_repeat : HasT look false link-entry_check-wrong_repeat.code
   entry_check_wrong_repeat = link-entry_check-wrong_repeat.has look false here.entry_check_wrong_repeat (section.entry_does_repeat look in_numbers in_section)
 
+  pub entry_check_check_own : HasT look false link-entry_check-check_own.code
+  entry_check_check_own = link-entry_check-check_own.has look false here.entry_check_check_own entry_check_wrong_entry_info entry_check_wrong_repeat
+
   pub row_check_wrong_row_info : HasT look false link-row_check-wrong_row_info.code
   row_check_wrong_row_info = link-row_check-wrong_row_info.has look false here.row_check_wrong_row_info (section.row_count_of look in_numbers in_section) (section.row_offset_size_of look in_numbers in_section)
 
-  pub row_check_check_row : HasT look false link-row_check-check_row.code
-  row_check_check_row = link-row_check-check_row.has look false here.row_check_check_row row_check_wrong_row_info (numbers.field_width_of look in_numbers) (section.row_info_at look in_numbers in_section) (section.row_row_length look in_numbers in_section)
+  pub row_check_pass_row : HasT look false link-row_check-pass_row.code
+  row_check_pass_row = link-row_check-pass_row.has look false here.row_check_pass_row row_check_wrong_row_info (numbers.field_field_at look in_numbers) (numbers.field_width_of look in_numbers) (section.row_info_at look in_numbers in_section) (section.row_row_length look in_numbers in_section)
 
   pub row_check_walk_rows : HasT look false link-row_check-walk_rows.code
-  row_check_walk_rows = link-row_check-walk_rows.has look false here.row_check_walk_rows row_check_check_row (numbers.field_field_at look in_numbers) (section.row_row_length look in_numbers in_section)
+  row_check_walk_rows = link-row_check-walk_rows.has look false here.row_check_walk_rows row_check_pass_row
 
   pub row_check_check_rows : HasT look false link-row_check-check_rows.code
   row_check_check_rows = link-row_check-check_rows.has look false here.row_check_check_rows row_check_walk_rows
 
   pub entry_check_check_entry : HasT look false link-entry_check-check_entry.code
-  entry_check_check_entry = link-entry_check-check_entry.has look false here.entry_check_check_entry entry_check_wrong_entry_info entry_check_wrong_repeat row_check_check_rows (section.entry_type_of look in_numbers in_section)
+  entry_check_check_entry = link-entry_check-check_entry.has look false here.entry_check_check_entry entry_check_check_own row_check_check_rows (section.entry_type_of look in_numbers in_section)
 
   pub header_check_wrong_abi : HasT look false link-header_check-wrong_abi.code
   header_check_wrong_abi = link-header_check-wrong_abi.has look false here.header_check_wrong_abi (numbers.field_OrderPartialEq_eq look in_numbers) (section.shape_abi_of look in_numbers in_section) (section.shape_shape_of look in_numbers in_section)

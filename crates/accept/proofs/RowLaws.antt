@@ -17,7 +17,7 @@ use Rattle.section.specs.Row.{info_of, count_of, offset_size_of, row_length, row
 use Rattle.section.specs.Inner.Reading.{Readable}
 use Rattle.section.specs.declared.entry.Entry.{Entry}
 use Rattle.section.specs.declared.shape.Shape.{Shape}
-use Rattle.accept.specs.Computed.Checks.{wrong_entry_info, entry_tests, wrong_row_info, row_tests, row_fault, low_of, row_fault_in, rows_fault, entry_fault}
+use Rattle.accept.specs.Computed.Checks.{first_bad, wrong_entry_info, entry_tests, wrong_row_info, row_tests, row_fault, low_of, row_fault_in, rows_fault, entry_fault}
 use Rattle.accept.specs.Fault.{Sound}
 use Rattle.accept.proofs.Decides.{Decides, not_below, positive, unset, none_of, where_set}
 use Rattle.accept.proofs.FaultLaws.{end, line, table_sound, and_sound, fault_sound, each_sound}
@@ -72,6 +72,19 @@ rows_sound area shape code first count =
 pub entry_info_decides : (info : ℕ) → Decides (wrong_entry_info info) ((bit_of 6 info ≡ false) × (bit_of 7 info ≡ false) × (type_of info ≤ 2))
 unfolding wrong_entry_info
 entry_info_decides info = none_of (unset (bit_of 6 info)) (unset (bit_of 7 info)) (not_below 2 (type_of info))
+
+-- what it is before its rows are tried
+abbrev pub OwnRules : List ℕ → Entry → Type 0
+OwnRules area entry =
+    ((bit_of 6 entry.info ≡ false) × (bit_of 7 entry.info ≡ false) × (type_of entry.info ≤ 2))
+    × (repeats entry.info ≡ true → 0 < entry.repeat)
+    × (entry.first ≤ length area)
+
+pub own_rules_hold : (area : List ℕ) (entry : Entry) → first_bad (entry_tests area entry) ≡ Sound → OwnRules area entry
+unfolding entry_tests
+own_rules_hold area entry right =
+    let h = (table_sound (line (entry_info_decides entry.info) (line (where_set (positive entry.repeat)) (line (not_below _ _) end)))).0 right in
+    (h.0, h.1.0, h.1.1.0)
 
 pub record EntrySound (area : List ℕ) (shape : Shape) (entry : Entry) : Type 0 where
   pub info : (bit_of 6 entry.info ≡ false) × (bit_of 7 entry.info ≡ false) × (type_of entry.info ≤ 2)

@@ -2,8 +2,9 @@
 -- Assumes nothing.
 use mathlib.Core.Path.{◌≡◌, refl, ◌∙◌, ap}
 use Prim.Native.Nat.{ℕ}
+use native.Mathlib.Omega.{arith}
 use Rattle.std.proofs.Common.{Result, Ok, Err}
-use Rattle.accept.specs.Told.{fault_told, verdict_told}
+use Rattle.accept.specs.Told.{fault_told, rows_told, verdict_told}
 use Rattle.accept.specs.declared.verdict.Refusal.{Refusal}
 use Rattle.accept.specs.declared.verdict.Rule.{Rule}
 use Rattle.accept.proofs.Exactly.{by_number}
@@ -13,6 +14,9 @@ fault_told_once (Ok done) (Ok over) e = refl
 fault_told_once (Ok done) (Err rule) e = cc
 fault_told_once (Err rule) (Ok done) e = cc
 fault_told_once (Err rule) (Err other) e = ap Err (by_number rule other cc)
+
+pub rows_told_once : {A : Type 0} (a b : Result A Rule) → rows_told a ≡ rows_told b → a ≡ b
+rows_told_once a b e = grind (arith, by_number)
 
 abbrev refused : Rule → ℕ → Result (Unit {0}) Refusal
 refused rule index = Err (record { rule = rule; index = index })

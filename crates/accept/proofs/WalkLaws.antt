@@ -2,33 +2,35 @@
 -- what is left to try decides as the whole does.
 -- Assumes nothing.
 use mathlib.Core.Path.{◌≡◌, refl, sym, ◌∙◌, ap}
-use mathlib.Core.List.{List, []}
+use mathlib.Core.List.{List}
 use Prim.Native.Nat.{ℕ, ◌+◌, ◌-◌, ◌≤◌, ◌<◌}
 use native.Mathlib.Nat.{sub-zero}
 use native.Mathlib.Numerals.{add-one}
 use native.Mathlib.Omega.{arith}
-use lib.ListN.{length, take}
-use borrow.Author.Tests.{lt-ltb, le-ltb}
-use Rattle.section.specs.Row.{row_length, row_place, row_start}
+use lib.ListN.{length}
+use Rattle.std.proofs.Common.{Ok, Err}
+use Rattle.section.specs.Row.{row_place, row_start}
 use Rattle.section.specs.declared.shape.Shape.{Shape}
-use Rattle.accept.specs.Computed.Checks.{first_bad, fault_of, first_of, row_tests, row_fault, low_of, row_fault_in, rows_fault}
-use Rattle.accept.specs.Fault.{Sound, Breaks}
+use Rattle.accept.specs.Computed.Checks.{fault_of, first_of, row_fault, low_of, row_fault_in, rows_fault}
+use Rattle.accept.specs.Fault.{Fault, Sound, Breaks}
+use Rattle.accept.specs.Inner.Passed.{unless_broken, row_passed}
+use Rattle.accept.specs.declared.row_check.RowPassed.{RowPassed}
 use Rattle.accept.proofs.FaultLaws.{left_goes_on, left_stops, left_ends}
-use Rattle.accept.proofs.RowLaws.{RowSound, row_sound}
-use Rattle.accept.proofs.TableLaws.{test_true, test_false, no_test, row_by_start}
+use Rattle.accept.proofs.RowLaws.{row_sound}
 
--- what the first three lines of a row's table leave, by its start
-pub row_low : (area : List ℕ) (shape : Shape) (code at low : ℕ) → first_bad (take 3 (row_tests area shape code at 0)) ≡ Sound
-    → row_start area shape.order code at < low → row_fault area shape code at low ≡ Breaks 13
-row_low area shape code at low parts lt = row_by_start area shape code at low parts ∙ test_true 13 [] (lt-ltb _ _ lt)
+-- ---- what is found where nothing is broken
 
-pub row_fine : (area : List ℕ) (shape : Shape) (code at low : ℕ) → first_bad (take 3 (row_tests area shape code at 0)) ≡ Sound
-    → low ≤ row_start area shape.order code at → row_fault area shape code at low ≡ Sound
-row_fine area shape code at low parts le = row_by_start area shape code at low parts ∙ test_false 13 [] (le-ltb _ _ le) ∙ no_test
+pub broken_by : {A : Type 0} {number : ℕ} (fault : Fault) (found : A) → Err number ≡ unless_broken fault found → fault ≡ Breaks number
+unfolding unless_broken
+broken_by Sound found e = cc
+broken_by (Breaks other) found e = cc
 
--- and before its start is known, the row is inside
-pub row_inside : (area : List ℕ) (shape : Shape) (code at : ℕ) → first_bad (take 3 (row_tests area shape code at 0)) ≡ Sound → RowSound area shape code at 0
-row_inside area shape code at parts = (row_sound area shape code at 0).0 (row_fine area shape code at 0 parts (omega arith))
+pub found_by : {A : Type 0} {other : A} (fault : Fault) (found : A) → Ok other ≡ unless_broken fault found → (fault ≡ Sound) × (other ≡ found)
+unfolding unless_broken
+found_by Sound found e = (refl, cc)
+found_by (Breaks number) found e = cc
+
+-- ---- turn by turn
 
 -- k rows are behind; the next stands at `at` and may start at `low`
 pub record RowsPassed (area : List ℕ) (shape : Shape) (code first count at low k : ℕ) : Type 0 where
@@ -49,11 +51,13 @@ unfolding row_fault_in
 here w = rw (w.place, w.least)
 
 pub walk_goes_on : {area : List ℕ} {shape : Shape} {code first count at low k : ℕ} → RowsPassed area shape code first count at low k → k < count
-    → row_fault area shape code at low ≡ Sound
-    → RowsPassed area shape code first count (at + row_length area code at) (row_start area shape.order code at + 1) (k + 1)
-unfolding row_place low_of
-walk_goes_on {area} {shape} {code} {first} {count} {at} {low} {k} w lt sound =
-    rw (add-one k, add-one (row_start area shape.order code at))
+    → {passed : RowPassed} → Ok passed ≡ row_passed area shape code at low
+    → RowsPassed area shape code first count passed.next (passed.start + 1) (k + 1)
+unfolding row_place low_of row_passed
+walk_goes_on {area} {shape} {code} {first} {count} {at} {low} {k} w lt {passed} e =
+    let found = found_by _ _ e in
+    let sound = found.0 in
+    rw (found.1, add-one k, add-one (row_start area shape.order code at))
     (record {
       place = rw w.place;
       least = rw w.place;
@@ -62,10 +66,17 @@ walk_goes_on {area} {shape} {code} {first} {count} {at} {low} {k} w lt sound =
       rest = sym (left_goes_on _ count k lt (here w ∙ sound)) ∙ w.rest;
     })
 
+pub passed_start : (area : List ℕ) (shape : Shape) (code at low : ℕ) {passed : RowPassed} → Ok passed ≡ row_passed area shape code at low
+    → (passed.start ≡ row_start area shape.order code at) × (low ≤ passed.start)
+unfolding row_passed
+passed_start area shape code at low e =
+    let found = found_by _ _ e in
+    rw found.1 (refl, ((row_sound area shape code at low).0 found.0).above)
+
 pub walk_stops : {area : List ℕ} {shape : Shape} {code first count at low k number : ℕ} → RowsPassed area shape code first count at low k → k < count
-    → row_fault area shape code at low ≡ Breaks number → Breaks number ≡ rows_fault area shape code first count
-unfolding rows_fault fault_of
-walk_stops {count = count} {k = k} w lt breaks = ap fault_of (sym (left_stops _ count k lt (here w ∙ breaks)) ∙ w.rest)
+    → Err number ≡ row_passed area shape code at low → Breaks number ≡ rows_fault area shape code first count
+unfolding rows_fault fault_of row_passed
+walk_stops {count = count} {k = k} w lt e = ap fault_of (sym (left_stops _ count k lt (here w ∙ broken_by _ _ e)) ∙ w.rest)
 
 pub walk_ends : {area : List ℕ} {shape : Shape} {code first count at low k : ℕ} → RowsPassed area shape code first count at low k → count ≤ k
     → Sound ≡ rows_fault area shape code first count

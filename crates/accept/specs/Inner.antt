@@ -1,4 +1,5 @@
 -- What only the code and its proofs speak of.
 pub mod Opened
+pub mod Passed
 pub mod Reliable
 pub mod Requires

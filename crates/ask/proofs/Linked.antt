@@ -12,7 +12,6 @@ use Rattle.section.proofs.Linked as section
 use Rattle.accept.proofs.Linked as accept
 use Rattle.lookup.proofs.Linked as lookup
 use Rattle.ask.proofs.TheLinks.ask-land-with_sought as link-land-with_sought
-use Rattle.ask.proofs.TheLinks.ask-rows-check_own as link-rows-check_own
 use Rattle.ask.proofs.TheLinks.ask-rows-sought_at as link-rows-sought_at
 use Rattle.ask.proofs.TheLinks.ask-rows-stop_after as link-rows-stop_after
 use Rattle.ask.proofs.TheLinks.ask-rows-walk_rows as link-rows-walk_rows
@@ -27,7 +26,6 @@ use Rattle.ask.proofs.TheLinks.ask-land-ask as link-land-ask
 abbrev pub entries : Entries → Entries
 entries more =
     ("ask::land::with_sought", link-land-with_sought.entry) ∷
-    ("ask::rows::check_own", link-rows-check_own.entry) ∷
     ("ask::rows::sought_at", link-rows-sought_at.entry) ∷
     ("ask::rows::stop_after", link-rows-stop_after.entry) ∷
     ("ask::rows::walk_rows", link-rows-walk_rows.entry) ∷
@@ -42,7 +40,6 @@ entries more =
 -- a look-up finds them
 pub record Finds (look : Symbol → Entry) : Type 0 where
   pub land_with_sought : look "ask::land::with_sought" ≡ link-land-with_sought.entry
-  pub rows_check_own : look "ask::rows::check_own" ≡ link-rows-check_own.entry
   pub rows_sought_at : look "ask::rows::sought_at" ≡ link-rows-sought_at.entry
   pub rows_stop_after : look "ask::rows::stop_after" ≡ link-rows-stop_after.entry
   pub rows_walk_rows : look "ask::rows::walk_rows" ≡ link-rows-walk_rows.entry
@@ -57,9 +54,6 @@ module _ (look : Symbol → Entry) (in_numbers : numbers.Finds look) (in_section
   pub land_with_sought : HasT look false link-land-with_sought.code
   land_with_sought = link-land-with_sought.has look false here.land_with_sought
 
-  pub rows_check_own : HasT look false link-rows-check_own.code
-  rows_check_own = link-rows-check_own.has look false here.rows_check_own (accept.entry_check_wrong_entry_info look in_numbers in_section in_accept) (accept.entry_check_wrong_repeat look in_numbers in_section in_accept)
-
   pub rows_sought_at : HasT look false link-rows-sought_at.code
   rows_sought_at = link-rows-sought_at.has look false here.rows_sought_at (section.row_row_at look in_numbers in_section)
 
@@ -67,13 +61,13 @@ module _ (look : Symbol → Entry) (in_numbers : numbers.Finds look) (in_section
   rows_stop_after = link-rows-stop_after.has look false here.rows_stop_after
 
   pub rows_walk_rows : HasT look false link-rows-walk_rows.code
-  rows_walk_rows = link-rows-walk_rows.has look false here.rows_walk_rows (accept.row_check_check_row look in_numbers in_section in_accept) rows_stop_after (numbers.field_field_at look in_numbers) (section.row_row_length look in_numbers in_section)
+  rows_walk_rows = link-rows-walk_rows.has look false here.rows_walk_rows (accept.row_check_pass_row look in_numbers in_section in_accept) rows_stop_after
 
   pub rows_walk_typed : HasT look false link-rows-walk_typed.code
   rows_walk_typed = link-rows-walk_typed.has look false here.rows_walk_typed rows_walk_rows
 
   pub rows_seek_row : HasT look false link-rows-seek_row.code
-  rows_seek_row = link-rows-seek_row.has look false here.rows_seek_row rows_check_own rows_sought_at rows_walk_typed (lookup.look_block_offset look in_numbers in_section in_accept in_lookup) (section.entry_type_of look in_numbers in_section)
+  rows_seek_row = link-rows-seek_row.has look false here.rows_seek_row (accept.entry_check_check_own look in_numbers in_section in_accept) rows_sought_at rows_walk_typed (lookup.look_block_offset look in_numbers in_section in_accept in_lookup) (section.entry_type_of look in_numbers in_section)
 
   pub land_in_function : HasT look false link-land-in_function.code
   land_in_function = link-land-in_function.has look false here.land_in_function land_with_sought rows_seek_row (lookup.table_entry_in look in_numbers in_section in_accept in_lookup) (section.header_order_at look in_numbers in_section) (section.shape_shape_of look in_numbers in_section)

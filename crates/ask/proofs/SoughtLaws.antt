@@ -1,17 +1,14 @@
 -- From the walk over an entry's rows to what is sought among them: where nothing is broken, the row at which the rows at or below end is the
 -- last one at or below. Assumes nothing.
 use mathlib.Core.Path.{◌≡◌, refl, sym}
-use mathlib.Core.Bool.{true, false}
 use mathlib.Core.List.{List}
-use Prim.Native.Nat.{ℕ, ◌≤◌, ◌<◌}
+use Prim.Native.Nat.{ℕ, ◌<◌}
 use native.Mathlib.Omega.{arith}
 use lib.Dec.{eqb}
 use lib.IntN.{ℤ, ◌-ℤ◌}
-use lib.ListN.{length}
 use borrow.Author.Tests.{eqb-true, eqb-false}
 use Rattle.std.specs.Prelude.{Option, Ok, Err}
-use Rattle.section.specs.Entry.{type_of, repeats}
-use Rattle.section.specs.Header.{bit_of}
+use Rattle.section.specs.Entry.{type_of}
 use Rattle.numbers.specs.Inner.Held.{natural}
 use Rattle.section.specs.Meaning.{listed, block_of, row_in, function_start, function_in}
 use Rattle.section.specs.Inner.Reading.{Readable}
@@ -19,41 +16,16 @@ use Rattle.section.specs.declared.entry.Entry.{Entry}
 use Rattle.section.specs.declared.shape.Shape.{Shape}
 use Rattle.accept.specs.Computed.Checks.{first_bad, and_then, entry_tests, rows_fault, entry_fault}
 use Rattle.accept.specs.Fault.{Fault, Sound, Breaks}
-use Rattle.accept.proofs.Decides.{not_below, positive, where_set}
-use Rattle.accept.proofs.FaultLaws.{end, line, table_sound, and_sound}
-use Rattle.accept.proofs.RowLaws.{entry_info_decides}
+use Rattle.accept.specs.Inner.Passed.{unless_broken}
+use Rattle.accept.proofs.FaultLaws.{and_sound}
+use Rattle.accept.proofs.WalkLaws.{broken_by, found_by}
 use Rattle.lookup.specs.Computed.Rows.{in_block, offset_within, last_row, row_for}
 use Rattle.lookup.specs.declared.rows.Hit.{Hit}
 use Rattle.lookup.specs.declared.rows.Stop.{Stop}
 use Rattle.lookup.proofs.CoveringLaws.{by_value}
 use Rattle.lookup.proofs.EntryRows.{entry_stop, stop_none, stop_last, stop_readable}
 use Rattle.ask.specs.Computed.Ask.{checked_row, in_function}
-use Rattle.ask.specs.Inner.Parts.{unless_broken, walk_of, sought_at, sought_in, with_sought, past_function}
-
-broken_by : {A : Type 0} {number : ℕ} (fault : Fault) (found : A) → Err number ≡ unless_broken fault found → fault ≡ Breaks number
-unfolding unless_broken
-broken_by Sound found e = cc
-broken_by (Breaks other) found e = cc
-
-found_by : {A : Type 0} {other : A} (fault : Fault) (found : A) → Ok other ≡ unless_broken fault found → (fault ≡ Sound) × (other ≡ found)
-unfolding unless_broken
-found_by Sound found e = (refl, cc)
-found_by (Breaks number) found e = cc
-
--- ---- before the rows
-
-module _ (area : List ℕ) (entry : Entry) where
-  abbrev OwnRules : Type 0
-  OwnRules =
-      ((bit_of 6 entry.info ≡ false) × (bit_of 7 entry.info ≡ false) × (type_of entry.info ≤ 2))
-      × (repeats entry.info ≡ true → 0 < entry.repeat)
-      × (entry.first ≤ length area)
-
-  pub own_rules_hold : first_bad (entry_tests area entry) ≡ Sound → OwnRules
-  unfolding entry_tests
-  own_rules_hold right =
-      let h = (table_sound (line (entry_info_decides entry.info) (line (where_set (positive entry.repeat)) (line (not_below _ _) end)))).0 right in
-      (h.0, h.1.0, h.1.1.0)
+use Rattle.ask.specs.Inner.Parts.{walk_of, sought_at, sought_in, with_sought, past_function}
 
 module _ (area : List ℕ) (shape : Shape) (entry : Entry) where
   -- ---- something is broken

@@ -3,14 +3,10 @@
 use mathlib.Core.Path.{◌≡◌}
 use native.Mathlib.Omega.{arith}
 use Rattle.std.proofs.Common.{Result}
-use Rattle.accept.specs.declared.verdict.Rule.{Rule}
 use Rattle.accept.proofs.Exactly.{by_number}
-use Rattle.ask.specs.Told.{rows_told, ask_told}
+use Rattle.ask.specs.Told.{ask_told}
 use Rattle.ask.specs.declared.answer.AskFound.{AskFound}
 use Rattle.ask.specs.declared.answer.AskRefusal.{AskRefusal}
-
-pub rows_told_once : {A : Type 0} (a b : Result A Rule) → rows_told a ≡ rows_told b → a ≡ b
-rows_told_once a b e = grind (arith, by_number)
 
 pub ask_told_once : (a b : Result AskFound AskRefusal) → ask_told a ≡ ask_told b → a ≡ b
 ask_told_once a b e = grind (arith, by_number)

@@ -13,12 +13,13 @@ use Rattle.section.specs.Row.{row_place}
 use Rattle.section.specs.declared.shape.Shape.{Shape}
 use Rattle.accept.specs.Computed.Checks.{rows_fault}
 use Rattle.accept.specs.Fault.{Sound, Breaks}
+use Rattle.accept.specs.Inner.Passed.{unless_broken}
 use Rattle.lookup.specs.Scanned.{start_in}
 use Rattle.lookup.specs.declared.rows.Stop.{Stop}
 use Rattle.lookup.specs.Inner.Search.{stop_of}
 use Rattle.lookup.proofs.CoveringLaws.{by_value}
 use Rattle.lookup.proofs.LastRowLaws.{halts_alone}
-use Rattle.ask.specs.Inner.Parts.{unless_broken, stop_after, walk_of}
+use Rattle.ask.specs.Inner.Parts.{stop_after, walk_of}
 
 -- of the first k rows, those before `rows` start at or below o and the others above it; the next one may start at `low`
 pub record StopSoFar (area : List ℕ) (order : Order) (code first o low k : ℕ) (stop : Stop) : Type 0 where

@@ -1,16 +1,10 @@
 -- What the code's answers tell, in numbers.
-use Rattle.std.specs.Prelude.{ℕ, Result, Ok, Err}
+use Rattle.std.specs.Prelude.{Result, Ok, Err}
 use Rattle.accept.specs.Given.{number_of_rule}
-use Rattle.accept.specs.declared.verdict.Rule.{Rule}
 use Rattle.ask.specs.AskAnswer.{AskAnswer, Found, Unsound, Unsorted, NoFunction, NoRow, Damaged}
 use Rattle.ask.specs.declared.answer.AskFound.{AskFound}
 use Rattle.ask.specs.declared.answer.AskRefusal.{AskRefusal}
 use Rattle.ask.specs.declared.answer.AskRefusal.TheVariants as refusal
-
--- of rows, or of an entry with its rows: what was found, or the number of the broken rule
-abbrev pub rows_told : {A : Type 0} → Result A Rule → Result A ℕ
-rows_told (Ok found) = Ok found
-rows_told (Err rule) = Err (number_of_rule rule)
 
 abbrev pub refusal_told : AskRefusal → AskAnswer
 refusal_told (refusal.Unsound rule) = Unsound (number_of_rule rule)

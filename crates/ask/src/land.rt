@@ -4,7 +4,8 @@ ghost use Rattle.numbers.specs.Start.{distance};
 ghost use Rattle.lookup.specs.Inner.Requires.{HeaderOf};
 ghost use Rattle.ask.specs.Computed.Ask.{where_landed, ask_in, ask_of};
 ghost use Rattle.ask.specs.Inner.Parts.{with_sought, past_function};
-ghost use Rattle.ask.specs.Told.{rows_told, ask_told};
+ghost use Rattle.accept.specs.Told.{rows_told};
+ghost use Rattle.ask.specs.Told.{ask_told};
 
 use crate::answer::{AskFound, AskRefusal};
 use crate::rows::seek_row;

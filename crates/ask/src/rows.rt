@@ -1,38 +1,18 @@
-// The rows of one function, checked and looked through in one walk. The checks are those of `accept`, and the row is the one that `lookup`
-// finds. Neither's own loop is called: a second caller would keep it from being compiled into a check, or into the lookup of a frame.
+// The rows of one function, checked and looked through in one walk: each turn is the one of a check (`pass_row` of `accept`), and the row is
+// the one that `lookup` finds.
 ghost use Rattle.std.specs.Prelude.{◌≡◌, ◌≤◌, ◌<◌, length};
 ghost use Rattle.section.specs.Inner.Reading.{Readable};
-ghost use Rattle.accept.specs.Computed.Checks.{first_bad, entry_tests};
-ghost use Rattle.accept.specs.Told.{fault_told};
+ghost use Rattle.accept.specs.Told.{rows_told};
 ghost use Rattle.ask.specs.Inner.Parts.{stop_after, walk_of, sought_at, sought_in};
-ghost use Rattle.ask.specs.Told.{rows_told};
 
-use accept::entry_check::{wrong_entry_info, wrong_repeat};
-use accept::row_check::check_row;
+use accept::entry_check::check_own;
+use accept::row_check::pass_row;
 use accept::verdict::Rule;
 use lookup::look::block_offset;
 use lookup::rows::{Hit, Stop};
-use numbers::field::field_at;
 use section::entry::{Entry, type_of};
-use section::row::{row_at, row_length};
+use section::row::row_at;
 use section::shape::Shape;
-
-// An entry before its rows are tried.
-#[tactic(auto, unfolding(accept::specs::Computed::Checks::first_bad, accept::specs::Computed::Checks::entry_tests, accept::specs::Given::number_of_rule))]
-fn check_own(area: &[u8], entry: Entry) -> Result<(), Rule>
-    ensures { fault_told result ≡ first_bad (entry_tests area.now entry) }
-{
-    if wrong_entry_info(entry.info) {
-        return Err(Rule::EntryInfo);
-    }
-    if wrong_repeat(entry.info, entry.repeat) {
-        return Err(Rule::RepeatSize);
-    }
-    if area.len() < entry.first as usize {
-        return Err(Rule::RowsInside);
-    }
-    Ok(())
-}
 
 // The stop after one more row, the last of so many, which stands at `at`.
 #[tactic(auto, unfolding(crate::specs::Inner::Parts::stop_after))]
@@ -66,16 +46,13 @@ fn walk_rows(
     let mut at = first;
     let mut low = 0;
     for k in 0..count {
-        if let Err(rule) = check_row(area, shape, code, at) {
-            return Err(rule);
-        }
-        let start = field_at(area, at, code, shape.order) as u64;
-        if start < low {
-            return Err(Rule::RowsRising);
-        }
-        stop = stop_after(stop, k + 1, at, start, o);
-        low = start + 1;
-        at += row_length(area, code, at);
+        let passed = match pass_row(area, shape, code, at, low) {
+            Ok(passed) => passed,
+            Err(rule) => return Err(rule),
+        };
+        stop = stop_after(stop, k + 1, at, passed.start as u64, o);
+        low = passed.start as u64 + 1;
+        at = passed.next;
     }
     Ok(stop)
 }

@@ -1,11 +1,11 @@
 -- Every public function of `ask` determines its reply: two replies that its own contract allows for one input are equal.
 -- Assumes nothing.
 use mathlib.Core.Path.{refl, sym, ◌∙◌}
+use Rattle.accept.proofs.ToldLaws.{rows_told_once}
 use Rattle.ask.proofs.land.ask.Kinds as ask-kinds
 use Rattle.ask.proofs.land.ask.Reads as ask-reads
 use Rattle.ask.proofs.rows.seek_row.Kinds as seek_row-kinds
 use Rattle.ask.proofs.rows.seek_row.Reads as seek_row-reads
-use Rattle.ask.proofs.ToldLaws.{rows_told_once}
 use Rattle.ask.proofs.ToldLaws.{ask_told_once}
 use Rattle.promises.specs.Determined.{Determined}
 

@@ -82,8 +82,9 @@ table_has_accept more =
     record {
       entry_check_wrong_entry_info = refl;
       entry_check_wrong_repeat = refl;
+      entry_check_check_own = refl;
       row_check_wrong_row_info = refl;
-      row_check_check_row = refl;
+      row_check_pass_row = refl;
       row_check_walk_rows = refl;
       row_check_check_rows = refl;
       entry_check_check_entry = refl;
@@ -173,7 +174,6 @@ pub table_has_ask : (more : Entries) → ask.Finds (in_entries (table more))
 table_has_ask more =
     record {
       land_with_sought = refl;
-      rows_check_own = refl;
       rows_sought_at = refl;
       rows_stop_after = refl;
       rows_walk_rows = refl;

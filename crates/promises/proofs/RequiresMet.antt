@@ -30,7 +30,7 @@ use Rattle.section.proofs.row.info_at.Reads as info_at-reads
 use Rattle.section.proofs.row.row_at.Reads as row_at-reads
 use Rattle.section.proofs.row.row_length.Reads as row_length-reads
 use Rattle.section.proofs.row.row_start_at.Reads as row_start_at-reads
-use Rattle.accept.proofs.row_check.check_row.Reads as check_row-reads
+use Rattle.accept.proofs.row_check.pass_row.Reads as pass_row-reads
 use Rattle.accept.proofs.row_check.check_rows.Reads as check_rows-reads
 use Rattle.listing.proofs.function.facts_at.Reads as facts_at-reads
 use Rattle.lookup.specs.Inner.Opened.{lookup_opened}
@@ -147,9 +147,9 @@ row_at_met κs here =
 -- ---- accept
 
 -- the first row
-pub check_row_met : (κs : Lfts 1) (here : Lies) → check_row-reads.Asked κs (lent here (area_of section_s), (shape_of section_s, (0, (0, tt))))
+pub pass_row_met : (κs : Lfts 1) (here : Lies) → pass_row-reads.Asked κs (lent here (area_of section_s), (shape_of section_s, (0, (0, (0, tt)))))
 unfolding lookup_opened section_s
-check_row_met κs here = (omega arith, omega arith)
+pass_row_met κs here = (omega arith, omega arith)
 
 -- the rows of the first entry
 pub check_rows_met :

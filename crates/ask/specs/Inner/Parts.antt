@@ -6,18 +6,13 @@ use Rattle.section.specs.Row.{row_of}
 use Rattle.section.specs.declared.entry.Entry.{Entry}
 use Rattle.section.specs.declared.shape.Shape.{Shape}
 use Rattle.accept.specs.Computed.Checks.{rows_fault, entry_fault}
-use Rattle.accept.specs.Fault.{Fault, Sound, Breaks}
+use Rattle.accept.specs.Inner.Passed.{unless_broken}
 use Rattle.lookup.specs.Computed.Rows.{in_block, last_row}
 use Rattle.lookup.specs.declared.rows.Hit.{Hit}
 use Rattle.lookup.specs.declared.rows.Stop.{Stop}
 use Rattle.lookup.specs.Inner.Search.{stop_of}
 use Rattle.ask.specs.AskAnswer.{AskAnswer, Damaged}
 use Rattle.ask.specs.Computed.Ask.{with_row}
-
--- what is found where nothing is broken, else the number of the broken rule
-unfoldable pub unless_broken : {A : Type 0} → Fault → A → Result A ℕ
-unless_broken Sound found = Ok found
-unless_broken (Breaks number) found = Err number
 
 -- ---- an entry's rows
 

@@ -4,9 +4,10 @@ use mathlib.Core.Path.{◌≡◌, sym, ◌∙◌, ap}
 use Rattle.std.proofs.Common.{Ok}
 use Rattle.section.specs.Entry.{type_of}
 use Rattle.section.specs.Meaning.{block_of}
+use Rattle.accept.proofs.RowLaws.{own_rules_hold}
 use Rattle.lookup.specs.Computed.Rows.{in_block}
 use Rattle.ask.specs.Inner.Parts.{walk_of}
-use Rattle.ask.proofs.SoughtLaws.{own_rules_hold, sought_wrong, sought_faulty, stop_can_be_read, sought_whole}
+use Rattle.ask.proofs.SoughtLaws.{sought_wrong, sought_faulty, stop_can_be_read, sought_whole}
 use Rattle.ask.proofs.rows.seek_row.Goals as goal
 use Rattle.ask.proofs.rows.seek_row.Goals.{In-Ok}
 
