@@ -3,7 +3,7 @@
 use mathlib.Core.Path.{◌≡◌}
 use native.Mathlib.Omega.{arith}
 use Rattle.std.proofs.Common.{Result}
-use Rattle.accept.proofs.Exactly.{by_number, number_of_rule_lem}
+use Rattle.accept.proofs.Exactly.{by_number}
 use Rattle.caller.specs.Told.{frame_told, step_told}
 use Rattle.caller.specs.declared.registers.FrameRefusal.{FrameRefusal}
 use Rattle.caller.specs.declared.registers.Registers.{Registers}

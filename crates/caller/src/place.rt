@@ -29,6 +29,7 @@ pub enum Needed {
     Fp,
 }
 
+#[tactic(auto, unfolding(crate::specs::Computed::Caller::spot_at))]
 fn spot_at(address: Option<u64>) -> Spot
     ensures { result ≡ spot_at address }
 {
@@ -39,6 +40,7 @@ fn spot_at(address: Option<u64>) -> Spot
 }
 
 // The one function that finds a place, for RA and for FP, before any word is read.
+#[tactic(auto, unfolding(crate::specs::Computed::Caller::spot_of))]
 pub fn spot_of(cfa: u64, place: Place) -> Spot
     ensures { result ≡ spot_of cfa place }
 {
@@ -49,17 +51,18 @@ pub fn spot_of(cfa: u64, place: Place) -> Spot
 }
 
 // Whether RA is lost: it would be in LR, which is trusted with the mark alone.
+#[tactic(auto, using(crate::proofs::RegisterLaws::twice_not), unfolding(crate::specs::Computed::Caller::is_lost, crate::specs::Frame::has_mark))]
 pub fn is_lost(registers: Registers, ra: Spot) -> bool
     ensures { result ≡ is_lost registers ra }
 {
     match ra {
         Spot::Kept => registers.first == 0,
-        Spot::Saved(_) => false,
-        Spot::Beyond => false,
+        Spot::Saved(_) | Spot::Beyond => false,
     }
 }
 
 // What stands at a place: the register's value, or the word of the stack.
+#[tactic(auto, unfolding(crate::specs::Computed::Caller::value_of))]
 pub fn value_at(stack: &[u8], lies: u64, order: Order, register: u64, spot: Spot) -> Option<u64>
     ensures { result ≡ value_of stack.now lies order register spot }
 {
@@ -71,6 +74,7 @@ pub fn value_at(stack: &[u8], lies: u64, order: Order, register: u64, spot: Spot
 }
 
 // RA's word is tried before FP's; the error is the word that is outside the stack window.
+#[tactic(auto, unfolding(crate::specs::Computed::Caller::both_of, crate::specs::Computed::Caller::values_of))]
 pub fn values_at(
     stack: &[u8],
     lies: u64,
@@ -81,14 +85,11 @@ pub fn values_at(
 ) -> Result<Values, Needed>
     ensures { result ≡ values_of stack.now lies order registers ra fp }
 {
-    let Some(first) = value_at(stack, lies, order, registers.lr, ra) else {
+    let Some(ra) = value_at(stack, lies, order, registers.lr, ra) else {
         return Err(Needed::Ra);
     };
-    let Some(second) = value_at(stack, lies, order, registers.fp, fp) else {
+    let Some(fp) = value_at(stack, lies, order, registers.fp, fp) else {
         return Err(Needed::Fp);
     };
-    Ok(Values {
-        ra: first,
-        fp: second,
-    })
+    Ok(Values { ra, fp })
 }

@@ -117,27 +117,28 @@ impl StepCause {
 
 // One before a PC. A return address stands behind its call, and behind the function where the call is the function's last instruction;
 // one before it is inside both. Before 0 there is nothing.
+#[tactic(auto, using(crate::proofs::RegisterLaws::none_before, crate::proofs::RegisterLaws::one_before))]
 fn just_before(pc: u64) -> Option<u64>
     ensures { result ≡ just_before pc }
 {
-    if pc == 0 {
-        return None;
-    }
-    Some(pc - 1)
+    if pc == 0 { None } else { Some(pc - 1) }
 }
 
 // The PC that is looked up, if there is one. The crashed function's own PC is at an instruction, every other PC is a return address: the
 // mark tells them apart.
+#[tactic(auto, using(crate::proofs::RegisterLaws::asked_unmarked, crate::proofs::RegisterLaws::asked_marked))]
 pub fn asked_of(registers: Registers) -> Option<u64>
     ensures { result ≡ asked_of registers }
 {
     let before = just_before(registers.pc);
     if registers.first == 0 {
-        return before;
+        before
+    } else {
+        Some(registers.pc)
     }
-    Some(registers.pc)
 }
 
+#[tactic(auto, unfolding(crate::specs::Frame::base_value))]
 pub fn base_value(registers: Registers, base: Base) -> u64
     ensures { result ≡ base_value registers base }
 {
@@ -148,15 +149,15 @@ pub fn base_value(registers: Registers, base: Base) -> u64
 }
 
 // CFA, where that is an address at all.
+#[tactic(auto, using(crate::proofs::RegisterLaws::cfa_is))]
 pub fn cfa_of(registers: Registers, row: Row) -> Option<u64>
     ensures { result ≡ in_memory (cfa_of registers row) }
 {
-    let base = row.base;
-    let offset = row.cfa;
-    address_of(base_value(registers, base), offset)
+    address_of(base_value(registers, row.base), row.cfa)
 }
 
 // The caller's SP, by CFA.
+#[tactic(auto, unfolding(crate::specs::Frame::caller_sp))]
 pub fn caller_sp(cfa: u64) -> u64
     ensures { result ≡ caller_sp cfa }
 {
@@ -164,6 +165,7 @@ pub fn caller_sp(cfa: u64) -> u64
 }
 
 // The CFA of the frame whose caller has this SP.
+#[tactic(auto, unfolding(crate::specs::Frame::cfa_of_sp))]
 pub fn cfa_of_sp(sp: u64) -> u64
     ensures { result ≡ cfa_of_sp sp }
 {
@@ -171,11 +173,13 @@ pub fn cfa_of_sp(sp: u64) -> u64
 }
 
 // Whether the stack would not shrink: the caller's SP is below SP, or equal to it without the mark.
+#[tactic(auto, using(crate::proofs::RegisterLaws::low_unmarked, crate::proofs::RegisterLaws::low_marked))]
 pub fn is_low(registers: Registers, sp: u64) -> bool
     ensures { result ≡ is_low registers sp }
 {
     if registers.first == 0 {
-        return sp <= registers.sp;
+        sp <= registers.sp
+    } else {
+        sp < registers.sp
     }
-    sp < registers.sp
 }

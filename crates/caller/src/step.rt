@@ -42,14 +42,13 @@ impl Registers {
     ) -> Result<Registers, FrameRefusal>
         ensures { frame_told result ≡ with_values self mask cfa values }
     {
-        let lr = self.lr;
         match values {
             Err(_) => self.refuse(FrameCause::WordOutside),
             Ok(values) => Ok(Registers {
                 pc: clear(mask, values.ra),
                 sp: caller_sp(cfa),
                 fp: values.fp,
-                lr: lr,
+                lr: self.lr,
                 first: 0,
             }),
         }
@@ -70,14 +69,14 @@ impl Registers {
         ensures { frame_told result ≡ from_spots shape stack.now process self mask cfa ra fp }
     {
         if is_lost(self, ra) {
-            return self.refuse(FrameCause::RaLost);
+            self.refuse(FrameCause::RaLost)
+        } else {
+            self.with_values(
+                mask,
+                cfa,
+                values_at(stack, process.stack, shape.order, self, ra, fp),
+            )
         }
-        let order = shape.order;
-        self.with_values(
-            mask,
-            cfa,
-            values_at(stack, process.stack, order, self, ra, fp),
-        )
     }
 
     // 26, then the places of RA and FP.
@@ -93,20 +92,18 @@ impl Registers {
         ensures { frame_told result ≡ from_cfa shape stack.now process self row cfa }
     {
         if is_low(self, caller_sp(cfa)) {
-            return self.refuse(FrameCause::CfaLow);
+            self.refuse(FrameCause::CfaLow)
+        } else {
+            self.from_spots(
+                shape,
+                stack,
+                process,
+                mask_of(shape, row, process),
+                cfa,
+                spot_of(cfa, row.ra),
+                spot_of(cfa, row.fp),
+            )
         }
-        let ra = row.ra;
-        let fp = row.fp;
-        let mask = mask_of(shape, row, process);
-        self.from_spots(
-            shape,
-            stack,
-            process,
-            mask,
-            cfa,
-            spot_of(cfa, ra),
-            spot_of(cfa, fp),
-        )
     }
 
     // The step that a row defines, with no section at hand: 24, 25 and what follows.
@@ -149,6 +146,7 @@ impl Registers {
     }
 
     // The step on a section that was checked before: one check serves a whole trace.
+    #[tactic(auto, using(crate::proofs::LookedUpLaws::nowhere_step))]
     pub fn step_checked(
         self,
         section: &[u8],
@@ -163,12 +161,11 @@ impl Registers {
             return self.refuse(FrameCause::NoFunction);
         };
         let answer = look(section, layout, process.section, pc);
-        let outcome = answer.outcome;
-        let abi = layout.abi;
-        self.from_outcome(shape_of(abi), stack, process, outcome)
+        self.from_outcome(shape_of(layout.abi), stack, process, answer.outcome)
     }
 
     // The step on any bytes, stack and registers: 41 and 1 to 15 first.
+    #[tactic(auto, using(accept::proofs::AcceptedLaws::accepted_laws), unfolding(crate::specs::Computed::Caller::if_fits, crate::specs::Computed::Caller::step_after, crate::specs::Computed::Caller::step_in))]
     pub fn step(
         self,
         section: &[u8],

@@ -1,18 +1,15 @@
 -- A base plus an offset, by the way that the offset goes; and a word by the tests that the code makes.
 -- Assumes nothing.
-use mathlib.Core.Path.{◌≡◌, sym}
-use mathlib.Core.Bool.{true}
+use mathlib.Core.Path.{◌≡◌}
 use mathlib.Core.List.{List}
 use Prim.Native.Nat.{ℕ, suc, ◌+◌, ◌-◌, ◌^◌, ◌≤◌, ◌<◌}
 use native.Mathlib.Omega.{arith}
 use lib.ListN.{length}
 use lib.IntN.{ℤ, pos, negsuc}
-use borrow.Author.Tests.{le-ltb, lt-ltb, le-leb, lt-leb}
-use Rattle.std.specs.Prelude.{leb}
-use Rattle.std.proofs.lemmas.Bool.Decides.{nat_tests}
+use borrow.Author.Tests.{le-ltb, lt-ltb, le-leb}
 use Rattle.std.specs.Prelude.{Some, None}
 use Rattle.numbers.specs.Field.{field_of}
-use Rattle.numbers.specs.Computed.Address.{in_memory, address_of, window_fits, wholly, word_of}
+use Rattle.numbers.specs.Computed.Address.{in_memory, address_of, wholly, word_of}
 use Rattle.numbers.specs.Inner.Shift.{shift_of}
 use Rattle.numbers.specs.declared.field.Order.{Order}
 use Rattle.numbers.specs.declared.offset.Shift.TheVariants.{Up, Down}
@@ -52,28 +49,7 @@ down_outside base (negsuc j) {k} e h =
 
 -- ---- a word, by the tests of its place
 
-pub word_below : (window : List ℕ) (lies at : ℕ) (order : Order) → at < lies → None ≡ word_of window lies at order
-unfolding wholly word_of
-word_below window lies at order h = rw (lt-leb lies at h, word_of)
-
-pub word_past : (window : List ℕ) (lies at : ℕ) (order : Order) → lies ≤ at → lies + length window < at + 8
-    → None ≡ word_of window lies at order
-unfolding wholly word_of
-word_past window lies at order h i = rw (le-leb lies at h, lt-leb (at + 8) (lies + length window) i, word_of)
-
 pub word_inside : (window : List ℕ) (lies at : ℕ) (order : Order) → lies ≤ at → at + 8 ≤ lies + length window
     → Some (field_of window (at - lies) 8 order) ≡ word_of window lies at order
 unfolding wholly word_of
 word_inside window lies at order h i = rw (le-leb lies at h, le-leb (at + 8) (lies + length window) i, word_of)
-
--- ---- a window, by its end
-
-pub fits_yes : (window : List ℕ) (lies : ℕ) → lies + length window ≤ 2 ^ 64 → true ≡ window_fits window lies
-unfolding window_fits
-fits_yes window lies h = sym (le-leb (lies + length window) (2 ^ 64) h)
-
--- one byte less on both sides
-pub fits_last : (window : List ℕ) (lies : ℕ) → 1 ≤ length window → lies < 2 ^ 64
-    → leb (length window - 1) (2 ^ 64 - 1 - lies) ≡ window_fits window lies
-unfolding window_fits
-fits_last window lies h i = grind (arith, nat_tests)

@@ -10,12 +10,8 @@ use native.Mathlib.Omega.{arith}
 use lib.Dec.{lit<}
 use lib.ListN.{length, take, drop, get_or, length-drop}
 use lib.Seq.{take-suc, drop-cons, get_or-drop}
-use borrow.Author.Tests.{le-leb, lt-leb}
-use Rattle.std.specs.Prelude.{Ok, Err}
 use Rattle.numbers.specs.Field.{digits, number_in, field_of, byte_of}
-use Rattle.numbers.specs.Computed.Number.{number_of}
 use Rattle.numbers.specs.Inner.Digits.{digit_place}
-use Rattle.numbers.specs.declared.field.NumberError.TheVariants.{Outside, NoWidth}
 use Rattle.numbers.specs.declared.field.Order.{Order}
 use Rattle.numbers.specs.declared.field.Order.TheVariants.{Little, Big}
 
@@ -89,31 +85,3 @@ byte_is bytes at h = sym (one_digit bytes at Little h)
 
 pub byte_in : (bytes : List ℕ) (at : ℕ) (order : Order) → at + 1 ≤ length bytes → byte_of bytes at ≡ field_of bytes at 1 order
 byte_in bytes at order h = sym (byte_is bytes at h) ∙ sym (one_digit bytes at order h)
-
--- ---- a number by the code of its width, by the tests of its code and place
-
-pub no_width : (bytes : List ℕ) (at code : ℕ) (order : Order) → 3 < code → Err NoWidth ≡ number_of bytes at code order
-unfolding number_of
-no_width bytes at code order h = rw (lt-leb code 3 h, number_of)
-
-pub number_outside : (bytes : List ℕ) (at code : ℕ) (order : Order) → code ≤ 3 → length bytes < at + 2 ^ code → Err Outside ≡ number_of bytes at code order
-unfolding number_of
-number_outside bytes at code order h i = rw (le-leb code 3 h, number_of) (rw (lt-leb (at + 2 ^ code) (length bytes) i))
-
-pub number_is : (bytes : List ℕ) (at code : ℕ) (order : Order) → code ≤ 3 → at + 2 ^ code ≤ length bytes
-    → Ok (field_of bytes at (2 ^ code) order) ≡ number_of bytes at code order
-unfolding number_of
-number_is bytes at code order h i = rw (le-leb code 3 h, number_of) (rw (le-leb (at + 2 ^ code) (length bytes) i))
-
--- ---- what the layers above ask of a field
-
-digits_below : (f : ℕ → ℕ) → ((j : ℕ) → f j < 256) → (n k : ℕ) → digits (values_of f n k) < 256 ^ n
-unfolding digits
-digits_below f h zero k = lit< tt
-digits_below f h (suc n) k = rw pow-succ' (omega (arith, h k, digits_below f h n (suc k)))
-
--- a field whose bytes are below 256 is below 256 ^ width
-pub field_below : (bytes : List ℕ) → ((k : ℕ) → get_or bytes k 0 < 256) → (at width : ℕ) (order : Order) → at + width ≤ length bytes
-    → field_of bytes at width order < 256 ^ width
-field_below bytes small at width order h =
-    rw (by_digits bytes at width order h) (digits_below _ (λ j. small (digit_place order at width j)) width 0)

@@ -21,6 +21,7 @@ pub enum NumberError {
 }
 
 // Digit k, the least being 0, of the number of `width` bytes at `at`.
+#[tactic(auto, unfolding(crate::specs::Inner::Digits::digit_place))]
 fn digit_at(bytes: &[u8], at: usize, width: usize, k: usize, order: Order) -> u8
     requires { (k < width) × (at + width ≤ length bytes.now) }
     ensures { result ≡ get_or bytes.now (digit_place order at width k) 0 }
@@ -33,6 +34,7 @@ fn digit_at(bytes: &[u8], at: usize, width: usize, k: usize, order: Order) -> u8
 
 // The number of N bytes at `at`, from its highest digit down. It is compiled into each reader below, where N is known: to one load, or
 // a load and a byte swap.
+#[tactic(auto, unfolding(crate::specs::Field::digits))]
 #[inline(always)]
 fn bytes_at<const N: usize>(bytes: &[u8], at: usize, order: Order) -> u64
     requires { (N ≤ 8) × (at + N ≤ length bytes.now) }
@@ -47,6 +49,7 @@ fn bytes_at<const N: usize>(bytes: &[u8], at: usize, order: Order) -> u64
 }
 
 // The byte at `at`.
+#[tactic(auto, using(crate::proofs::FieldLaws::byte_is))]
 pub fn u8_at(bytes: &[u8], at: usize) -> u8
     requires { at + 1 ≤ length bytes.now }
     ensures { result ≡ byte_of bytes.now at }
@@ -96,6 +99,7 @@ pub fn width_of(code: usize) -> usize
 }
 
 // The number of 1, 2 or 4 bytes at `at`, by the code of its width.
+#[tactic(auto, using(crate::proofs::FieldLaws::byte_in))]
 pub fn field_at(bytes: &[u8], at: usize, code: usize, order: Order) -> u32
     requires { (code ≤ 2) × (at + 2 ^ code ≤ length bytes.now) }
     ensures { result ≡ field_of bytes.now at (2 ^ code) order }
@@ -108,6 +112,7 @@ pub fn field_at(bytes: &[u8], at: usize, code: usize, order: Order) -> u32
 }
 
 // The number of 1, 2, 4 or 8 bytes at `at`, for any place and any code.
+#[tactic(auto, unfolding(crate::specs::Computed::Number::number_of))]
 pub fn number_at(bytes: &[u8], at: usize, code: usize, order: Order) -> Result<u64, NumberError>
     ensures { result ≡ number_of bytes.now at code order }
 {
@@ -115,14 +120,12 @@ pub fn number_at(bytes: &[u8], at: usize, code: usize, order: Order) -> Result<u
         return Err(NumberError::NoWidth);
     }
     let width = width_of(code);
-    if bytes.len() < width {
-        return Err(NumberError::Outside);
-    }
-    if bytes.len() - width < at {
+    if bytes.len() < width || bytes.len() - width < at {
         return Err(NumberError::Outside);
     }
     if code == 3 {
-        return Ok(u64_at(bytes, at, order));
+        Ok(u64_at(bytes, at, order))
+    } else {
+        Ok(field_at(bytes, at, code, order) as u64)
     }
-    Ok(field_at(bytes, at, code, order) as u64)
 }

@@ -14,6 +14,7 @@ pub const FAR: u64 = 0x4_0000_0000;
 const NEGATIVE: u64 = 0x8000_0000;
 
 // How far a field is above the least one, -2^31: the remainder changes its sign bit.
+#[tactic(auto, unfolding(crate::specs::Inner::Held::rank))]
 pub fn rank_of(field: u32) -> u64
     ensures value { result ≡ rank field }
     ensures range { result < 2 ^ 32 }
@@ -22,6 +23,7 @@ pub fn rank_of(field: u32) -> u64
 }
 
 // A start from its field and what it counts from: the field's own position under flag 0x4, else 0.
+#[tactic(auto, using(crate::proofs::HeldLaws::held_rank))]
 pub fn held_start(field: u32, position: u32) -> u64
     ensures value { result ≡ raised (start_at field position) }
     ensures range { Held (start_at field position) result }
@@ -39,19 +41,15 @@ pub fn start_at(field: u32, position: u32) -> Offset
 }
 
 // PC minus section address, exact and never wrapped; beyond every start and end it is kept at 0 or at 2^34.
+#[tactic(auto, using(crate::proofs::HeldLaws::near_by))]
 pub fn near_of(address: u64, pc: u64) -> u64
     ensures { result ≡ near (distance address pc) }
 {
     if address <= pc {
         let up = pc - address;
-        if FAR - LIFT <= up {
-            return FAR;
-        }
-        return up + LIFT;
+        if FAR - LIFT <= up { FAR } else { up + LIFT }
+    } else {
+        let down = address - pc;
+        if LIFT <= down { 0 } else { LIFT - down }
     }
-    let down = address - pc;
-    if LIFT <= down {
-        return 0;
-    }
-    LIFT - down
 }

@@ -37,10 +37,11 @@ pub fn offset_of(number: u32, code: usize) -> Offset
     let full = full_of(code);
     let n = number as u64;
     if n < full / 2 {
-        return Offset { by: n as i64 };
-    }
-    Offset {
-        by: n as i64 - full as i64,
+        Offset { by: n as i64 }
+    } else {
+        Offset {
+            by: n as i64 - full as i64,
+        }
     }
 }
 
@@ -63,7 +64,8 @@ pub fn shift_of(offset: Offset) -> Shift
 {
     let by = offset.by;
     if by < 0 {
-        return Shift::Down((-1 - by) as u64 + 1);
+        Shift::Down((-1 - by) as u64 + 1)
+    } else {
+        Shift::Up(by as u64)
     }
-    Shift::Up(by as u64)
 }

@@ -20,13 +20,14 @@ pub struct Entry {
 }
 
 // The entry that stands at a place of the section.
+#[tactic(auto, unfolding(crate::specs::Entry::entry_of))]
 pub fn entry_at(section: &[u8], order: Order, place: u32) -> Entry
     requires { place + 20 ≤ length section.now }
     ensures { result ≡ entry_of section.now order place }
 {
     let at = place as usize;
     Entry {
-        place: place,
+        place,
         start: u32_at(section, at, order),
         size: u32_at(section, at + 4, order),
         first: u32_at(section, at + 8, order),
@@ -37,6 +38,7 @@ pub fn entry_at(section: &[u8], order: Order, place: u32) -> Entry
 }
 
 // The row type of an entry's info byte.
+#[tactic(auto, unfolding(crate::specs::Entry::type_of))]
 pub fn type_of(info: u8) -> usize
     ensures { result ≡ type_of info }
 {
@@ -44,6 +46,7 @@ pub fn type_of(info: u8) -> usize
 }
 
 // Whether an entry's info byte says that its block repeats.
+#[tactic(auto, unfolding(crate::specs::Entry::repeats))]
 pub fn does_repeat(info: u8) -> bool
     ensures { result ≡ repeats info }
 {
@@ -51,16 +54,15 @@ pub fn does_repeat(info: u8) -> bool
 }
 
 // What the start field at a place counts from: that place under flag 0x4, else the section.
+#[tactic(auto, unfolding(crate::specs::Entry::position_at))]
 pub fn position_at(relative: bool, place: u32) -> u32
     ensures { result ≡ position_at relative place }
 {
-    if relative {
-        return place;
-    }
-    0
+    if relative { place } else { 0 }
 }
 
 // The effective start, held 2^32 above its value.
+#[tactic(auto, unfolding(crate::specs::Entry::start_of))]
 pub fn start_of(relative: bool, entry: Entry) -> u64
     ensures value { result ≡ raised (start_of relative entry) }
     ensures range { Held (start_of relative entry) result }
@@ -69,6 +71,7 @@ pub fn start_of(relative: bool, entry: Entry) -> u64
 }
 
 // The effective start as it is.
+#[tactic(auto, unfolding(crate::specs::Entry::start_of))]
 pub fn exact_start(relative: bool, entry: Entry) -> Offset
     ensures { result.by ≡ start_of relative entry }
 {

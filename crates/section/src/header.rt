@@ -59,14 +59,16 @@ pub fn magic_in(section: &[u8], order: Order) -> bool
     u16_at(section, 0, order) == 0xdee2
 }
 
+#[tactic(auto, unfolding(crate::specs::Header::order_of))]
 pub fn order_at(section: &[u8]) -> Order
     requires { 28 ≤ length section.now }
     ensures { result ≡ order_of section.now }
 {
     if magic_in(section, Order::Little) {
-        return Order::Little;
+        Order::Little
+    } else {
+        Order::Big
     }
-    Order::Big
 }
 
 // A signed number of one byte.
@@ -77,6 +79,7 @@ fn fixed_at(section: &[u8], at: usize) -> Offset
     offset_of(u8_at(section, at) as u32, 0)
 }
 
+#[tactic(auto, unfolding(crate::specs::Header::marks_of))]
 pub fn marks_at(section: &[u8]) -> Marks
     requires { 28 ≤ length section.now }
     ensures { result ≡ marks_of section.now }
@@ -91,6 +94,8 @@ pub fn marks_at(section: &[u8]) -> Marks
     }
 }
 
+#[tactic(auto, unfolding(crate::specs::Header::sizes_of))]
+#[inline(always)]
 pub fn sizes_at(section: &[u8], order: Order) -> Sizes
     requires { 28 ≤ length section.now }
     ensures { result ≡ sizes_of section.now order }
@@ -104,21 +109,21 @@ pub fn sizes_at(section: &[u8], order: Order) -> Sizes
     }
 }
 
+#[tactic(auto, unfolding(crate::specs::Header::layout_from, crate::specs::Header::layout_of))]
 pub fn layout_at(section: &[u8]) -> Layout
     requires { 28 ≤ length section.now }
     ensures { result ≡ layout_of section.now }
 {
     let marks = marks_at(section);
     let sizes = sizes_at(section, order_at(section));
-    let abi = abi_of(marks.abi);
     let table = 28 + marks.auxiliary as u64;
     Layout {
-        abi: abi,
+        abi: abi_of(marks.abi),
         functions: sizes.functions,
         rows: sizes.rows,
         sorted: bit_of(0, marks.flags),
         relative: bit_of(2, marks.flags),
-        table: table,
+        table,
         area: table + 20 * sizes.functions as u64,
     }
 }

@@ -42,6 +42,7 @@ pub fn row_start_at(area: &[u8], order: Order, code: usize, at: usize) -> u64
 }
 
 // The info byte of the row at `at`.
+#[tactic(auto, unfolding(crate::specs::Row::info_of))]
 pub fn info_at(area: &[u8], code: usize, at: usize) -> u8
     requires { (code ≤ 2) × (at + 2 ^ code + 1 ≤ length area.now) }
     ensures { result ≡ info_of area.now code at }
@@ -50,21 +51,21 @@ pub fn info_at(area: &[u8], code: usize, at: usize) -> u8
 }
 
 // The parts of an info byte.
+#[tactic(auto, unfolding(crate::specs::Row::base_of))]
 fn base_of(info: u8) -> Base
     ensures { result ≡ base_of info }
 {
-    if bit_of(0, info) {
-        return Base::Sp;
-    }
-    Base::Fp
+    if bit_of(0, info) { Base::Sp } else { Base::Fp }
 }
 
+#[tactic(auto, unfolding(crate::specs::Row::count_of))]
 pub fn count_of(info: u8) -> u8
     ensures { result ≡ count_of info }
 {
     info / 2 % 16
 }
 
+#[tactic(auto, unfolding(crate::specs::Row::offset_size_of))]
 pub fn offset_size_of(info: u8) -> u8
     ensures { result ≡ offset_size_of info }
 {
@@ -80,6 +81,7 @@ fn is_signed(signs: bool, info: u8) -> bool
 }
 
 // How many bytes the offsets have that an info byte announces: at most 15 of 8 bytes, if any info byte is taken.
+#[tactic(auto, using(crate::proofs::OffsetLaws::offsets_below, crate::proofs::OffsetLaws::size_below), unfolding(crate::specs::Row::offsets_length))]
 fn offsets_length(info: u8) -> usize
     ensures value { result ≡ offsets_length info }
     ensures range { result ≤ 120 }
@@ -88,6 +90,7 @@ fn offsets_length(info: u8) -> usize
 }
 
 // How many bytes the row at `at` has.
+#[tactic(auto, unfolding(crate::specs::Row::row_length))]
 pub fn row_length(area: &[u8], code: usize, at: usize) -> usize
     requires { (code ≤ 2) × (at + 2 ^ code + 1 ≤ length area.now) }
     ensures { result ≡ row_length area.now code at }
@@ -96,6 +99,7 @@ pub fn row_length(area: &[u8], code: usize, at: usize) -> usize
 }
 
 // Offset k, counted from 0, of those that begin at `from`.
+#[tactic(auto, unfolding(crate::specs::Row::offset_in))]
 fn offset_in(area: &[u8], order: Order, size: usize, from: usize, k: usize) -> Offset
     requires { (size ≤ 2) × (from + k * 2 ^ size + 2 ^ size ≤ length area.now) }
     ensures { result ≡ offset_in area.now order size from k }
@@ -104,35 +108,32 @@ fn offset_in(area: &[u8], order: Order, size: usize, from: usize, k: usize) -> O
 }
 
 // The place that offset k names, where the row has so many.
+#[tactic(auto, using(crate::proofs::OffsetLaws::offset_within_lem), unfolding(crate::specs::Row::place_in))]
 fn place_in(area: &[u8], order: Order, info: u8, from: usize, k: u8) -> Place
     requires { Announced area.now info from }
     ensures { result ≡ place_in area.now order info from k }
 {
     if k < count_of(info) {
-        return Place::AtOffset(offset_in(
-            area,
-            order,
-            offset_size_of(info) as usize,
-            from,
-            k as usize,
-        ));
+        Place::AtOffset(offset_in(area, order, offset_size_of(info) as usize, from, k as usize))
+    } else {
+        Place::Register
     }
-    Place::Register
 }
 
+#[tactic(auto, unfolding(crate::specs::Row::ra_in))]
 fn ra_in(area: &[u8], shape: Shape, info: u8, from: usize) -> Place
     requires { Announced area.now info from }
     ensures { result ≡ ra_in area.now shape info from }
 {
     if shape.usesfixed {
-        let fixed = shape.fixedra;
-        return Place::AtOffset(fixed);
+        Place::AtOffset(shape.fixedra)
+    } else {
+        place_in(area, shape.order, info, from, 1)
     }
-    let order = shape.order;
-    place_in(area, order, info, from, 1)
 }
 
 // The row at `at`.
+#[tactic(auto, using(crate::proofs::OffsetLaws::offsets_of), unfolding(crate::specs::Row::row_of, crate::specs::Row::row_start))]
 pub fn row_at(area: &[u8], shape: Shape, code: usize, at: usize) -> Row
     requires { Readable area.now code at }
     ensures { result ≡ row_of area.now shape code at }

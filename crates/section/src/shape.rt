@@ -29,6 +29,7 @@ pub struct Shape {
 }
 
 // The ABI that the header's code names. Check 6 refuses a code that names none.
+#[tactic(auto, unfolding(crate::specs::Shape::abi_of))]
 pub fn abi_of(code: u8) -> Abi
     ensures { result ≡ abi_of code }
 {
@@ -39,11 +40,12 @@ pub fn abi_of(code: u8) -> Abi
     }
 }
 
+#[tactic(auto, unfolding(crate::specs::Shape::aarch64_shape))]
 fn aarch64(order: Order) -> Shape
     ensures { result ≡ aarch64_shape order }
 {
     Shape {
-        order: order,
+        order,
         most: 3,
         fixedfp: Offset { by: 0 },
         fixedra: Offset { by: 0 },
@@ -53,6 +55,7 @@ fn aarch64(order: Order) -> Shape
     }
 }
 
+#[tactic(auto, unfolding(crate::specs::Shape::amd64_shape))]
 fn amd64() -> Shape
     ensures { result ≡ amd64_shape }
 {
@@ -67,6 +70,7 @@ fn amd64() -> Shape
     }
 }
 
+#[tactic(auto, unfolding(crate::specs::Shape::shape))]
 pub fn shape_of(abi: Abi) -> Shape
     ensures { result ≡ shape abi }
 {

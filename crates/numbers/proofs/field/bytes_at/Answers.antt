@@ -1,13 +1,8 @@
 -- `field::bytes_at` puts the digits together from the highest down, by the law of a field's digits.
 -- Assumes nothing.
-use Rattle.std.proofs.Common.{refl, arith}
-use Rattle.numbers.specs.Field.{digits}
+use Rattle.std.proofs.Common.{arith}
 use Rattle.numbers.proofs.FieldLaws.{digit_more, digit_below, digit_fits, digits_all}
 use Rattle.numbers.proofs.field.bytes_at.Goals as goal
-
-pub loop-k-init : goal.loop-k-init
-unfolding digits
-loop-k-init g c = record { value = refl; range = omega arith }
 
 pub overflow_mul-number : goal.overflow_mul-number
 overflow_mul-number g c = omega (arith, digit_fits _ _ _ c.loop-k.invariant.range (omega arith) c.requires.0)

@@ -28,8 +28,8 @@ upper_fits c = less_fits c.args.number c.full_of-full.result (omega arith) (omeg
 pub overflow_sub-result : goal.overflow_sub-result
 overflow_sub-result c = rw (upper c) (upper_fits c)
 
-pub returns : goal.returns
-returns c =
+pub returns-else-n-full : goal.returns-else-n-full
+returns-else-n-full c =
     let n = c.args.number in
     let test : c.full_of-full.result / 2 ≤ n = c.if-n-full.false in
     rw (upper c, to_z-of_z (upper_fits c), c.full_of-full.ensures)

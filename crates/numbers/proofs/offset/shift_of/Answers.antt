@@ -31,11 +31,6 @@ pub returns-then-by-lt0 : goal.returns-then-by-lt0
 unfolding shift_of
 returns-then-by-lt0 c = rw (down c).back (sym (ap shift_of (down c).is))
 
-pub overflow_cast-result-2 : goal.overflow_cast-result-2
-overflow_cast-result-2 c =
-    let k = (up c).small in
-    rw (up c).back (tt, record { fits = omega arith })
-
-pub returns : goal.returns
+pub returns-else-by-lt0 : goal.returns-else-by-lt0
 unfolding shift_of
-returns c = rw (up c).back (sym (ap shift_of (up c).is))
+returns-else-by-lt0 c = rw (up c).back (sym (ap shift_of (up c).is))
