@@ -104,6 +104,7 @@ pub fn empty_row() -> Row
     }
 }
 
+#[tactic(auto, unfolding(crate::specs::Flat::flat_row))]
 pub fn flat_row(
     number: u64,
     function: u64,
@@ -114,24 +115,20 @@ pub fn flat_row(
 ) -> AnswerInC
     ensures { result ≡ flat_row number function second compared row decoded }
 {
-    let base = decoded.base;
-    let cfa = decoded.cfa;
-    let savedra = decoded.ra;
-    let savedfp = decoded.fp;
-    let ra = place_offset(savedra);
-    let fp = place_offset(savedfp);
+    let ra = place_offset(decoded.ra);
+    let fp = place_offset(decoded.fp);
     AnswerInC {
-        number: number,
-        function: function,
-        second: second,
-        compared: compared,
-        row: row,
+        number,
+        function,
+        second,
+        compared,
+        row,
         start: decoded.start as u64,
-        base: base_number(base),
-        cfa: cfa.by,
-        raplace: place_kind(savedra),
+        base: base_number(decoded.base),
+        cfa: decoded.cfa.by,
+        raplace: place_kind(decoded.ra),
         ra: ra.by,
-        fpplace: place_kind(savedfp),
+        fpplace: place_kind(decoded.fp),
         fp: fp.by,
         signedra: flag_of(decoded.signed),
     }

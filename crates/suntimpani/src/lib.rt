@@ -83,6 +83,7 @@ pub fn suntimpani_caller(
     flat_step(registers.step(section, stack, process))
 }
 
+#[tactic(auto, unfolding(trace::specs::Frames::traced_as, crate::specs::Flat::flat_trace))]
 pub fn suntimpani_trace(
     section: &[u8],
     stack: &[u8],

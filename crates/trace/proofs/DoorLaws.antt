@@ -1,12 +1,12 @@
--- What is tried before the walk: the door, test by test as the code makes them and by its three rules, and then the section.
+-- What is tried before the walk: the door by its three rules, and then the section.
 -- Assumes nothing.
-use borrow.Author.Tests.{lt-ltb, le-ltb, eqb-true}
+use borrow.Author.Tests.{eqb-true}
 use mathlib.Core.Path.{◌≡◌, refl, sym, ◌∙◌, ap}
-use mathlib.Core.Bool.{Bool, true, false}
+use mathlib.Core.Bool.{Bool, false}
 use mathlib.Core.List.{List, [], ◌∷◌}
 use mathlib.Core.Logic.Iff
 use mathlib.Core.Logic.{inl, inr, ◌↔◌, ⊎_elim}
-use Prim.Native.Nat.{ℕ, ◌+◌, ◌*◌, ◌^◌, ◌≤◌, ◌<◌}
+use Prim.Native.Nat.{ℕ, ◌+◌, ◌*◌, ◌^◌, ◌≤◌}
 use native.Mathlib.Omega.{arith}
 use lib.Dec.{eqb, ltb}
 use lib.ListN.{length}
@@ -41,26 +41,12 @@ unfolding in_force
 in_force_above limit =
     by_value (eqb limit 0) (λ e. ap (λ l. ltb 256 l) (eqb-true limit 0 e) ∙ rw (e, in_force) refl) (λ e. rw (e, in_force) refl)
 
--- ---- the door, test by test
+-- ---- the door's first test
 
 module _ (stack : List ℕ) (process : Process) (limit words : ℕ) where
   pub door_window : window_fits stack process.stack ≡ false → Breaks 41 ≡ door_fault stack process limit words
   unfolding door_fault door_tests first_bad
   door_window out = rw (out, first_bad)
-
-  module _ (fits : window_fits stack process.stack ≡ true) where
-    pub door_limit : 256 < limit → Breaks 42 ≡ door_fault stack process limit words
-    unfolding door_fault door_tests first_bad
-    door_limit high = rw (fits, first_bad) (rw (lt-ltb 256 limit high))
-
-    module _ (allowed : limit ≤ 256) where
-      pub door_words : words < 3 * in_force limit → Breaks 43 ≡ door_fault stack process limit words
-      unfolding door_fault door_tests first_bad
-      door_words few = rw (fits, first_bad) (rw (le-ltb 256 limit allowed, first_bad) (rw (lt-ltb words (3 * in_force limit) few)))
-
-      pub door_open : 3 * in_force limit ≤ words → Sound ≡ door_fault stack process limit words
-      unfolding door_fault door_tests first_bad
-      door_open enough = rw (fits, first_bad) (rw (le-ltb 256 limit allowed, first_bad) (rw (le-ltb words (3 * in_force limit) enough)))
 
 -- ---- the door, by its rules
 

@@ -66,6 +66,7 @@ impl DoorFault {
 }
 
 // The frame of a step that yields these registers.
+#[tactic(auto, unfolding(crate::specs::Frames::frame_of))]
 pub fn frame_of(caller: Registers) -> Frame
     ensures { result ≡ frame_of caller }
 {
@@ -77,6 +78,7 @@ pub fn frame_of(caller: Registers) -> Frame
 }
 
 // Writes the words of a frame from a place on.
+#[tactic(auto, using(crate::proofs::BufferLaws::three_sets))]
 pub fn write_frame(buffer: &mut [u64], at: usize, frame: Frame)
     requires { at + 3 ≤ length buffer.old }
     ensures { buffer.new ≡ put buffer.old at (words_of frame) }

@@ -18,29 +18,26 @@ const USUAL: u64 = 128;
 const MOST: u64 = 256;
 
 // How many frames a trace may have, for a limit that it does not refuse.
+#[tactic(auto, unfolding(crate::specs::Frames::in_force))]
 pub fn in_force(limit: u64) -> u64
     ensures { result ≡ in_force limit }
 {
-    if limit == 0 {
-        return USUAL;
-    }
-    limit
+    if limit == 0 { USUAL } else { limit }
 }
 
+#[tactic(auto, unfolding(crate::specs::Frames::with_mark))]
 fn with_mark(registers: Registers) -> Registers
     ensures { result ≡ with_mark registers }
 {
     Registers {
-        pc: registers.pc,
-        sp: registers.sp,
-        fp: registers.fp,
-        lr: registers.lr,
         first: 1,
+        ..registers
     }
 }
 
 // A caller as it is, since it has no mark and LR as it was. Neither is copied from it: together with FP or with each other they would
 // wait for the step's own stores (docs/BENCHMARKS.md).
+#[tactic(auto, unfolding(crate::specs::Inner::Writing::next_from))]
 fn next_from(caller: Registers, last: Registers) -> Registers
     ensures { result ≡ next_from caller last }
 {
@@ -54,6 +51,7 @@ fn next_from(caller: Registers, last: Registers) -> Registers
 }
 
 // 41, 42, 43: what is tried before anything else.
+#[tactic(auto, using(crate::proofs::DoorLaws::in_force_small), unfolding(crate::specs::Computed::Trace::door_fault, crate::specs::Computed::Trace::door_tests, accept::specs::Computed::Checks::first_bad))]
 fn door_fault(stack: &[u8], process: Process, limit: u64, words: u64) -> Result<(), DoorFault>
     ensures { door_told result ≡ door_fault stack.now process limit words }
 {
@@ -71,6 +69,7 @@ fn door_fault(stack: &[u8], process: Process, limit: u64, words: u64) -> Result<
 }
 
 // The walk on a section that was checked, and as many frames as the limit allows.
+#[tactic(auto, using(crate::proofs::GoingLaws::going_begins, crate::proofs::GoingLaws::going_fits))]
 fn walk(
     section: &[u8],
     layout: Layout,
@@ -89,7 +88,7 @@ fn walk(
             Err(refusal) => {
                 return Traced {
                     ending: Ending::Refused(refusal.cause),
-                    frames: frames,
+                    frames,
                 };
             }
             Ok(caller) => {
@@ -111,6 +110,7 @@ fn walk(
 }
 
 // The trace on any bytes, stack, registers, limit and buffer.
+#[tactic(auto, using(accept::proofs::AcceptedLaws::accepted_laws, crate::proofs::DoorLaws::in_force_small, crate::proofs::DoorLaws::door_allows, crate::proofs::DoorLaws::refused_at_door, crate::proofs::DoorLaws::refused_by_section, crate::proofs::DoorLaws::walked))]
 pub fn trace(
     section: &[u8],
     stack: &[u8],

@@ -2,7 +2,7 @@
 -- Assumes nothing.
 use native.Mathlib.Omega.{arith}
 use mathlib.Core.Path.{◌≡◌, sym, ◌∙◌, ap}
-use Prim.Native.Nat.{◌+◌, ◌-◌, ◌*◌, ◌≤◌, ◌<◌}
+use Prim.Native.Nat.{◌+◌, ◌-◌, ◌*◌, ◌<◌}
 use lib.ListN.{length}
 use Rattle.caller.proofs.NumberLaws.{caller_unmarked, caller_keeps_lr}
 use Rattle.caller.specs.Numbers.{step_number}
@@ -10,15 +10,9 @@ use Rattle.trace.specs.Ending.{Outermost, Full}
 use Rattle.trace.specs.Frames.{frame_of, words_of, traced_as}
 use Rattle.trace.specs.Computed.Trace.{checked_walk}
 use Rattle.trace.specs.Inner.Writing.{next_from, put}
-use Rattle.trace.proofs.GoingLaws.{next_same, going_begins, going_full, going_refused, going_fits, going_same, going_outermost, going_on}
+use Rattle.trace.proofs.GoingLaws.{next_same, going_full, going_refused, going_same, going_outermost, going_on}
 use Rattle.trace.proofs.walk.walk.Goals as goal
 use Rattle.trace.proofs.walk.walk.Goals.{After-next_from-current, After-write_frame, In-Ok, In-loop-frames}
-
-pub loop-frames-init : goal.loop-frames-init
-loop-frames-init c = let all : c.args.limit - 0 ≡ c.args.limit = omega arith in rw all going_begins
-
-pub step_checked-requires : goal.step_checked-requires
-step_checked-requires c = c.requires.0
 
 more : (c : In-loop-frames) → 0 < c.args.limit - c.loop-frames.frames
 more c = omega (arith, c.loop-frames-test.true)
@@ -30,19 +24,6 @@ returns-in-Err c =
     going_refused c.loop-frames.invariant (more (goal.at.returns-in-Err c).In-loop-frames) _ (sym c.in-Err.ensures) (λ caller e. cc)
 
 -- ---- the step yields a frame
--- the turn that a step was made in has room for its frame
-room : (c : In-Ok) → 3 * c.loop-frames.frames + 3 ≤ length c.loop-frames.buffer
-room c = going_fits c.loop-frames.invariant (omega (arith, c.loop-frames-test.true)) c.requires.2
-
-few : (c : In-Ok) → c.loop-frames.frames < 256
-few c = omega (arith, c.loop-frames-test.true, c.requires.1)
-
-pub overflow_mul-frames : goal.overflow_mul-frames
-overflow_mul-frames c = record { fits = omega (arith, few (goal.at.overflow_mul-frames c).In-Ok) }
-
-pub write_frame-requires : goal.write_frame-requires
-write_frame-requires c = room (goal.at.write_frame-requires c).In-Ok
-
 -- what the buffer holds then, and the step that made it
 written_is : (c : After-write_frame)
     → c.write_frame.new.buffer
@@ -74,9 +55,6 @@ loop-frames-preserved c =
     (going_on c.loop-frames.invariant (omega (arith, c.loop-frames-test.true)) c.requires.2 (sym c.in-Ok.ensures) c.if-caller-eq0.false)
 
 -- ---- the limit is full
-pub shape_of-buffer : goal.shape_of-buffer
-shape_of-buffer c = c.loop-frames.invariant.same
-
 pub returns : goal.returns
 unfolding checked_walk
 returns c =
