@@ -55,7 +55,9 @@ pub fn pass_row(
     Ok(RowPassed { start, next })
 }
 
-// All rows of a function, the first of which stands at `first`. `low` is the least start that the next row may have.
+// All rows of a function, the first of which stands at `first`. `low` is the least start that the next row may have. The walk is
+// compiled into each of its calls below, where the width of a start is known.
+#[inline(always)]
 fn walk_rows(area: &[u8], shape: Shape, code: usize, first: usize, count: u32) -> Result<(), Rule>
     requires { (code ≤ 2) × (first ≤ length area.now) }
     ensures { fault_told result ≡ rows_fault area.now shape code first count }

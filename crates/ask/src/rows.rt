@@ -27,7 +27,8 @@ fn stop_after(stop: Stop, rows: u32, at: usize, start: u64, o: u64) -> Stop
 }
 
 // All rows of a function, the first of which stands at `first`: where those at or below end. `low` is the least start that the next
-// row may have.
+// row may have. The walk is compiled into each of its calls below, where the width of a start is known.
+#[inline(always)]
 fn walk_rows(
     area: &[u8],
     shape: Shape,
