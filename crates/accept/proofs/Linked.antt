@@ -24,7 +24,6 @@ use Rattle.accept.proofs.TheLinks.accept-header_check-wrong_sizes as link-header
 use Rattle.accept.proofs.TheLinks.accept-header_check-check_parts as link-header_check-check_parts
 use Rattle.accept.proofs.TheLinks.accept-header_check-has_magic as link-header_check-has_magic
 use Rattle.accept.proofs.TheLinks.accept-header_check-check_header as link-header_check-check_header
-use Rattle.accept.proofs.TheLinks.accept-row_check-check_row as link-row_check-check_row
 use Rattle.accept.proofs.TheLinks.accept-section_check-check_sum as link-section_check-check_sum
 use Rattle.accept.proofs.TheLinks.accept-section_check-starts_below as link-section_check-starts_below
 use Rattle.accept.proofs.TheLinks.accept-section_check-check_turn as link-section_check-check_turn
@@ -52,7 +51,6 @@ entries more =
     ("accept::header_check::check_parts", link-header_check-check_parts.entry) ∷
     ("accept::header_check::has_magic", link-header_check-has_magic.entry) ∷
     ("accept::header_check::check_header", link-header_check-check_header.entry) ∷
-    ("accept::row_check::check_row", link-row_check-check_row.entry) ∷
     ("accept::section_check::check_sum", link-section_check-check_sum.entry) ∷
     ("accept::section_check::starts_below", link-section_check-starts_below.entry) ∷
     ("accept::section_check::check_turn", link-section_check-check_turn.entry) ∷
@@ -80,7 +78,6 @@ pub record Finds (look : Symbol → Entry) : Type 0 where
   pub header_check_check_parts : look "accept::header_check::check_parts" ≡ link-header_check-check_parts.entry
   pub header_check_has_magic : look "accept::header_check::has_magic" ≡ link-header_check-has_magic.entry
   pub header_check_check_header : look "accept::header_check::check_header" ≡ link-header_check-check_header.entry
-  pub row_check_check_row : look "accept::row_check::check_row" ≡ link-row_check-check_row.entry
   pub section_check_check_sum : look "accept::section_check::check_sum" ≡ link-section_check-check_sum.entry
   pub section_check_starts_below : look "accept::section_check::starts_below" ≡ link-section_check-starts_below.entry
   pub section_check_check_turn : look "accept::section_check::check_turn" ≡ link-section_check-check_turn.entry
@@ -135,9 +132,6 @@ module _ (look : Symbol → Entry) (in_numbers : numbers.Finds look) (in_section
 
   pub header_check_check_header : HasT look false link-header_check-check_header.code
   header_check_check_header = link-header_check-check_header.has look false here.header_check_check_header header_check_check_parts header_check_has_magic
-
-  pub row_check_check_row : HasT look false link-row_check-check_row.code
-  row_check_check_row = link-row_check-check_row.has look false here.row_check_check_row row_check_wrong_row_info (numbers.field_width_of look in_numbers) (section.row_info_at look in_numbers in_section) (section.row_row_length look in_numbers in_section)
 
   pub section_check_check_sum : HasT look false link-section_check-check_sum.code
   section_check_check_sum = link-section_check-check_sum.has look false here.section_check_check_sum

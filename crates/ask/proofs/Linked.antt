@@ -21,7 +21,6 @@ use Rattle.ask.proofs.TheLinks.ask-land-in_function as link-land-in_function
 use Rattle.ask.proofs.TheLinks.ask-land-where_landed as link-land-where_landed
 use Rattle.ask.proofs.TheLinks.ask-land-ask_in as link-land-ask_in
 use Rattle.ask.proofs.TheLinks.ask-land-ask as link-land-ask
-use Rattle.ask.proofs.TheLinks.ask-rows-check_own as link-rows-check_own
 
 -- the functions with their code, before more
 abbrev pub entries : Entries → Entries
@@ -36,7 +35,6 @@ entries more =
     ("ask::land::where_landed", link-land-where_landed.entry) ∷
     ("ask::land::ask_in", link-land-ask_in.entry) ∷
     ("ask::land::ask", link-land-ask.entry) ∷
-    ("ask::rows::check_own", link-rows-check_own.entry) ∷
     more
 
 -- a look-up finds them
@@ -51,7 +49,6 @@ pub record Finds (look : Symbol → Entry) : Type 0 where
   pub land_where_landed : look "ask::land::where_landed" ≡ link-land-where_landed.entry
   pub land_ask_in : look "ask::land::ask_in" ≡ link-land-ask_in.entry
   pub land_ask : look "ask::land::ask" ≡ link-land-ask.entry
-  pub rows_check_own : look "ask::rows::check_own" ≡ link-rows-check_own.entry
 
 module _ (look : Symbol → Entry) (in_numbers : numbers.Finds look) (in_section : section.Finds look) (in_accept : accept.Finds look) (in_lookup : lookup.Finds look) (here : Finds look) where
   pub land_with_sought : HasT look false link-land-with_sought.code
@@ -83,6 +80,3 @@ module _ (look : Symbol → Entry) (in_numbers : numbers.Finds look) (in_section
 
   pub land_ask : HasT look false link-land-ask.code
   land_ask = link-land-ask.has look false here.land_ask (accept.header_check_check_header look in_numbers in_section in_accept) land_ask_in (section.header_layout_at look in_numbers in_section)
-
-  pub rows_check_own : HasT look false link-rows-check_own.code
-  rows_check_own = link-rows-check_own.has look false here.rows_check_own (accept.entry_check_wrong_entry_info look in_numbers in_section in_accept) (accept.entry_check_wrong_repeat look in_numbers in_section in_accept)

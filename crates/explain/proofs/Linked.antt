@@ -45,17 +45,9 @@ use Rattle.explain.proofs.TheLinks.explain-stepped-Frame-from_high as link-stepp
 use Rattle.explain.proofs.TheLinks.explain-stepped-Frame-from_cfa as link-stepped-Frame-from_cfa
 use Rattle.explain.proofs.TheLinks.explain-stepped-explain_row as link-stepped-explain_row
 use Rattle.explain.proofs.TheLinks.explain-stepped-Frame-by_looked as link-stepped-Frame-by_looked
-use Rattle.explain.proofs.TheLinks.explain-stepped-by_looked as link-stepped-by_looked
-use Rattle.explain.proofs.TheLinks.explain-stepped-caller_of as link-stepped-caller_of
 use Rattle.explain.proofs.TheLinks.explain-stepped-unlooked as link-stepped-unlooked
 use Rattle.explain.proofs.TheLinks.explain-stepped-explain_checked as link-stepped-explain_checked
 use Rattle.explain.proofs.TheLinks.explain-stepped-explain_step as link-stepped-explain_step
-use Rattle.explain.proofs.TheLinks.explain-stepped-fetch as link-stepped-fetch
-use Rattle.explain.proofs.TheLinks.explain-stepped-outside as link-stepped-outside
-use Rattle.explain.proofs.TheLinks.explain-stepped-with_ra as link-stepped-with_ra
-use Rattle.explain.proofs.TheLinks.explain-stepped-from_words as link-stepped-from_words
-use Rattle.explain.proofs.TheLinks.explain-stepped-from_high as link-stepped-from_high
-use Rattle.explain.proofs.TheLinks.explain-stepped-from_cfa as link-stepped-from_cfa
 use Rattle.explain.proofs.TheLinks.explain-sums-lowered_by as link-sums-lowered_by
 use Rattle.explain.proofs.TheLinks.explain-sums-raised_by as link-sums-raised_by
 use Rattle.explain.proofs.TheLinks.explain-sums-sum_of as link-sums-sum_of
@@ -96,17 +88,9 @@ entries more =
     ("explain::stepped::Frame::from_cfa", link-stepped-Frame-from_cfa.entry) ∷
     ("explain::stepped::explain_row", link-stepped-explain_row.entry) ∷
     ("explain::stepped::Frame::by_looked", link-stepped-Frame-by_looked.entry) ∷
-    ("explain::stepped::by_looked", link-stepped-by_looked.entry) ∷
-    ("explain::stepped::caller_of", link-stepped-caller_of.entry) ∷
     ("explain::stepped::unlooked", link-stepped-unlooked.entry) ∷
     ("explain::stepped::explain_checked", link-stepped-explain_checked.entry) ∷
     ("explain::stepped::explain_step", link-stepped-explain_step.entry) ∷
-    ("explain::stepped::fetch", link-stepped-fetch.entry) ∷
-    ("explain::stepped::outside", link-stepped-outside.entry) ∷
-    ("explain::stepped::with_ra", link-stepped-with_ra.entry) ∷
-    ("explain::stepped::from_words", link-stepped-from_words.entry) ∷
-    ("explain::stepped::from_high", link-stepped-from_high.entry) ∷
-    ("explain::stepped::from_cfa", link-stepped-from_cfa.entry) ∷
     ("explain::sums::lowered_by", link-sums-lowered_by.entry) ∷
     ("explain::sums::raised_by", link-sums-raised_by.entry) ∷
     ("explain::sums::sum_of", link-sums-sum_of.entry) ∷
@@ -147,17 +131,9 @@ pub record Finds (look : Symbol → Entry) : Type 0 where
   pub stepped_Frame_from_cfa : look "explain::stepped::Frame::from_cfa" ≡ link-stepped-Frame-from_cfa.entry
   pub stepped_explain_row : look "explain::stepped::explain_row" ≡ link-stepped-explain_row.entry
   pub stepped_Frame_by_looked : look "explain::stepped::Frame::by_looked" ≡ link-stepped-Frame-by_looked.entry
-  pub stepped_by_looked : look "explain::stepped::by_looked" ≡ link-stepped-by_looked.entry
-  pub stepped_caller_of : look "explain::stepped::caller_of" ≡ link-stepped-caller_of.entry
   pub stepped_unlooked : look "explain::stepped::unlooked" ≡ link-stepped-unlooked.entry
   pub stepped_explain_checked : look "explain::stepped::explain_checked" ≡ link-stepped-explain_checked.entry
   pub stepped_explain_step : look "explain::stepped::explain_step" ≡ link-stepped-explain_step.entry
-  pub stepped_fetch : look "explain::stepped::fetch" ≡ link-stepped-fetch.entry
-  pub stepped_outside : look "explain::stepped::outside" ≡ link-stepped-outside.entry
-  pub stepped_with_ra : look "explain::stepped::with_ra" ≡ link-stepped-with_ra.entry
-  pub stepped_from_words : look "explain::stepped::from_words" ≡ link-stepped-from_words.entry
-  pub stepped_from_high : look "explain::stepped::from_high" ≡ link-stepped-from_high.entry
-  pub stepped_from_cfa : look "explain::stepped::from_cfa" ≡ link-stepped-from_cfa.entry
   pub sums_lowered_by : look "explain::sums::lowered_by" ≡ link-sums-lowered_by.entry
   pub sums_raised_by : look "explain::sums::raised_by" ≡ link-sums-raised_by.entry
   pub sums_sum_of : look "explain::sums::sum_of" ≡ link-sums-sum_of.entry
@@ -262,12 +238,6 @@ module _ (look : Symbol → Entry) (in_numbers : numbers.Finds look) (in_section
   pub stepped_Frame_by_looked : HasT look false link-stepped-Frame-by_looked.code
   stepped_Frame_by_looked = link-stepped-Frame-by_looked.has look false here.stepped_Frame_by_looked stepped_explain_row
 
-  pub stepped_by_looked : HasT look false link-stepped-by_looked.code
-  stepped_by_looked = link-stepped-by_looked.has look false here.stepped_by_looked stepped_explain_row
-
-  pub stepped_caller_of : HasT look false link-stepped-caller_of.code
-  stepped_caller_of = link-stepped-caller_of.has look false here.stepped_caller_of (caller.registers_caller_sp look in_numbers in_section in_accept in_lookup in_caller) (caller.signature_clear look in_numbers in_section in_accept in_lookup in_caller)
-
   pub stepped_unlooked : HasT look false link-stepped-unlooked.code
   stepped_unlooked = link-stepped-unlooked.has look false here.stepped_unlooked coverers_no_coverers
 
@@ -276,24 +246,6 @@ module _ (look : Symbol → Entry) (in_numbers : numbers.Finds look) (in_section
 
   pub stepped_explain_step : HasT look false link-stepped-explain_step.code
   stepped_explain_step = link-stepped-explain_step.has look false here.stepped_explain_step (accept.section_check_check look in_numbers in_section in_accept) stepped_explain_checked stepped_unlooked (numbers.address_window_fits look in_numbers) (section.header_layout_at look in_numbers in_section)
-
-  pub stepped_fetch : HasT look false link-stepped-fetch.code
-  stepped_fetch = link-stepped-fetch.has look false here.stepped_fetch (caller.place_spot_of look in_numbers in_section in_accept in_lookup in_caller) (caller.place_value_at look in_numbers in_section in_accept in_lookup in_caller) stepped_fetched_at
-
-  pub stepped_outside : HasT look false link-stepped-outside.code
-  stepped_outside = link-stepped-outside.has look false here.stepped_outside
-
-  pub stepped_with_ra : HasT look false link-stepped-with_ra.code
-  stepped_with_ra = link-stepped-with_ra.has look false here.stepped_with_ra stepped_caller_of stepped_outside
-
-  pub stepped_from_words : HasT look false link-stepped-from_words.code
-  stepped_from_words = link-stepped-from_words.has look false here.stepped_from_words stepped_outside stepped_with_ra
-
-  pub stepped_from_high : HasT look false link-stepped-from_high.code
-  stepped_from_high = link-stepped-from_high.has look false here.stepped_from_high (caller.place_is_lost look in_numbers in_section in_accept in_lookup in_caller) (caller.place_spot_of look in_numbers in_section in_accept in_lookup in_caller) (caller.signature_mask_of look in_numbers in_section in_accept in_lookup in_caller) stepped_fetch stepped_from_words
-
-  pub stepped_from_cfa : HasT look false link-stepped-from_cfa.code
-  stepped_from_cfa = link-stepped-from_cfa.has look false here.stepped_from_cfa (caller.registers_caller_sp look in_numbers in_section in_accept in_lookup in_caller) (caller.registers_is_low look in_numbers in_section in_accept in_lookup in_caller) stepped_from_high
 
   pub sums_lowered_by : HasT look false link-sums-lowered_by.code
   sums_lowered_by = link-sums-lowered_by.has look false here.sums_lowered_by

@@ -95,7 +95,6 @@ table_has_accept more =
       header_check_check_parts = refl;
       header_check_has_magic = refl;
       header_check_check_header = refl;
-      row_check_check_row = refl;
       section_check_check_sum = refl;
       section_check_starts_below = refl;
       section_check_check_turn = refl;
@@ -185,7 +184,6 @@ table_has_ask more =
       land_where_landed = refl;
       land_ask_in = refl;
       land_ask = refl;
-      rows_check_own = refl;
     }
 
 pub table_has_caller : (more : Entries) → caller.Finds (in_entries (table more))
@@ -270,17 +268,9 @@ table_has_explain more =
       stepped_Frame_from_cfa = refl;
       stepped_explain_row = refl;
       stepped_Frame_by_looked = refl;
-      stepped_by_looked = refl;
-      stepped_caller_of = refl;
       stepped_unlooked = refl;
       stepped_explain_checked = refl;
       stepped_explain_step = refl;
-      stepped_fetch = refl;
-      stepped_outside = refl;
-      stepped_with_ra = refl;
-      stepped_from_words = refl;
-      stepped_from_high = refl;
-      stepped_from_cfa = refl;
       sums_lowered_by = refl;
       sums_raised_by = refl;
       sums_sum_of = refl;
