@@ -19,7 +19,8 @@ pub struct Entry {
     pub repeat: u8,
 }
 
-// The entry that stands at a place of the section.
+// The entry that stands at a place of the section. It is compiled into its callers: each keeps the fields it needs, and in registers.
+#[inline(always)]
 #[tactic(auto, unfolding(crate::specs::Entry::entry_of))]
 pub fn entry_at(section: &[u8], order: Order, place: u32) -> Entry
     requires { place + 20 ≤ length section.now }
