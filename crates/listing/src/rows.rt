@@ -46,10 +46,9 @@ fn has_fixed(section: &[u8], code: usize, at: usize) -> bool
 fn can_read(section: &[u8], code: usize, at: usize) -> bool
     ensures { result ≡ can_read section.now code at }
 {
-    if has_fixed(section, code, at) && names_offsets(info_at(section, code, at)) {
-        return row_length(section, code, at) <= section.len() - at;
-    }
-    false
+    has_fixed(section, code, at)
+        && names_offsets(info_at(section, code, at))
+        && row_length(section, code, at) <= section.len() - at
 }
 
 // Whether there is a row to yield.

@@ -2,6 +2,7 @@
 use crate::arguments::{is_input, note_file, note_given};
 use crate::console::Console;
 use crate::say::note;
+use std::fmt;
 use std::rt::Env;
 
 // Argument 2 is the section's file: here the program that it is taken from.
@@ -13,10 +14,16 @@ fn note_program(rt: &impl Env, console: &Console) {
     note_given(rt, console, 2);
 }
 
-fn hint_of_elf(rt: &impl Env, console: &Console) {
+// What the file is, behind its name.
+fn hint_of<T: fmt::Display + Drop>(rt: &impl Env, console: &Console, what: T) {
     note(console, "sframe: ");
     note_file(rt, console, 2);
-    note(
+    note(console, what);
+}
+
+fn hint_of_elf(rt: &impl Env, console: &Console) {
+    hint_of(
+        rt,
         console,
         " is an ELF file, not the bytes of a section. Its section is taken out by\n    objcopy -O binary --only-section=.sframe ",
     );
@@ -24,33 +31,23 @@ fn hint_of_elf(rt: &impl Env, console: &Console) {
     note(console, " section.sframe\n");
 }
 
-fn hint_of_empty(rt: &impl Env, console: &Console) {
-    note(console, "sframe: ");
-    note_file(rt, console, 2);
-    note(
-        console,
-        " is empty: was it taken from a program that has no .sframe section? 'readelf -SW PROGRAM' lists its sections\n",
-    );
-}
-
-fn hint_of_version(rt: &impl Env, console: &Console, version: u8) {
-    note(console, "sframe: ");
-    note_file(rt, console, 2);
-    note(
-        console,
-        format_args!(
-            " is a section of version {version}, and version 2 is read, which GNU binutils 2.41 to 2.45 write\n"
-        ),
-    );
-}
-
 // A file that is no section of version 2, and what it is. Behind the magic, in one of the byte orders, stands the version.
 pub fn hint_of_file(rt: &impl Env, console: &Console, section: &[u8]) {
     match section {
-        [] => hint_of_empty(rt, console),
+        [] => hint_of(
+            rt,
+            console,
+            " is empty: was it taken from a program that has no .sframe section? 'readelf -SW PROGRAM' lists its sections\n",
+        ),
         [0x7f, b'E', b'L', b'F', ..] => hint_of_elf(rt, console),
         [0xe2, 0xde, version, ..] | [0xde, 0xe2, version, ..] if *version != 2 => {
-            hint_of_version(rt, console, *version)
+            hint_of(
+                rt,
+                console,
+                format_args!(
+                    " is a section of version {version}, and version 2 is read, which GNU binutils 2.41 to 2.45 write\n"
+                ),
+            )
         }
         _ => {}
     }

@@ -8,7 +8,7 @@ use crate::text::Named;
 use accept::section_check::check;
 use accept::verdict::Refusal;
 use listing::function::Kind;
-use listing::lines::{Cursor, FunctionLine, Line, cursor_over, next_line};
+use listing::lines::{Cursor, FunctionLine, Line, LineTurn, cursor_over, next_line};
 use numbers::offset::{Shift, shift_of};
 use section::header::{Layout, layout_at};
 use section::row::{Place, Row};
@@ -146,13 +146,13 @@ fn show_line(console: &Console, abi: Abi, line: Line) {
 #[tactic(auto, using(listing::proofs::LinesLeft::yield_line))]
 fn show_lines(console: &Console, section: &[u8], abi: Abi, from: Cursor) {
     let mut cursor = from;
-    loop {
-        let turn = next_line(section, cursor);
-        let Some(line) = turn.next else {
-            return;
-        };
+    while let LineTurn {
+        next: Some(line),
+        cursor: rest,
+    } = next_line(section, cursor)
+    {
         show_line(console, abi, line);
-        cursor = turn.cursor;
+        cursor = rest;
     }
 }
 

@@ -40,7 +40,11 @@ pub fn show_refused(console: &Console, refusal: impl Into<Meant>) {
 }
 
 // A refusal that concerns one function.
-pub fn show_refused_in(console: &Console, refusal: impl Into<Meant>, function: u64) {
+pub fn show_refused_in(
+    console: &Console,
+    refusal: impl Into<Meant>,
+    function: impl fmt::Display + Drop,
+) {
     let refusal: Meant = refusal.into();
     tell_refused(console);
     say(
@@ -70,13 +74,7 @@ pub fn show_refused_at(
     refusal: impl Into<Meant>,
     function: u64,
 ) {
-    let refusal: Meant = refusal.into();
-    let function = Bounded { section, function };
-    tell_refused(console);
-    say(
-        console,
-        format_args!("refused: {refusal}, in function {function}\n"),
-    );
+    show_refused_in(console, refusal, Bounded { section, function });
 }
 
 // 22, with the two lowest of the functions that cover.

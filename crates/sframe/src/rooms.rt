@@ -102,12 +102,7 @@ where
 
 // What stands in a text behind the first place where a name does.
 fn behind<'a>(text: &'a [u8], name: &[u8]) -> Option<&'a [u8]> {
-    for at in 0..text.len() {
-        if let Some(rest) = text[at..].strip_prefix(name) {
-            return Some(rest);
-        }
-    }
-    None
+    (0..text.len()).find_map(|at| text.get(at..)?.strip_prefix(name))
 }
 
 // The decimal number behind a name in a text of the system's, with blanks between them.
