@@ -24,6 +24,14 @@ use section::header::{Layout, layout_at};
 use section::row::Row;
 use section::shape::{Shape, shape_of};
 
+// What a step is lent beside its registers and its row.
+#[derive(Clone, Copy)]
+struct Lent<'a> {
+    shape: Shape,
+    stack: &'a [u8],
+    process: Process,
+}
+
 impl Registers {
     // No caller, and the old registers.
     fn refuse(self, cause: FrameCause) -> Result<Registers, FrameRefusal>
@@ -58,15 +66,13 @@ impl Registers {
     #[tactic(auto, unfolding(crate::specs::Computed::Caller::from_spots, crate::specs::Computed::Caller::unless_lost))]
     fn from_spots(
         self,
-        shape: Shape,
-        stack: &[u8],
-        process: Process,
+        lent: Lent<'_>,
         mask: u64,
         cfa: u64,
         ra: Spot,
         fp: Spot,
     ) -> Result<Registers, FrameRefusal>
-        ensures { frame_told result ≡ from_spots shape stack.now process self mask cfa ra fp }
+        ensures { frame_told result ≡ from_spots lent.entry.shape lent.entry.stack.now lent.entry.process self mask cfa ra fp }
     {
         if is_lost(self, ra) {
             self.refuse(FrameCause::RaLost)
@@ -74,31 +80,29 @@ impl Registers {
             self.with_values(
                 mask,
                 cfa,
-                values_at(stack, process.stack, shape.order, self, ra, fp),
+                values_at(
+                    lent.stack,
+                    lent.process.stack,
+                    lent.shape.order,
+                    self,
+                    ra,
+                    fp,
+                ),
             )
         }
     }
 
     // 26, then the places of RA and FP.
     #[tactic(auto, unfolding(crate::specs::Computed::Caller::from_cfa, crate::specs::Computed::Caller::unless_low))]
-    fn from_cfa(
-        self,
-        shape: Shape,
-        stack: &[u8],
-        process: Process,
-        row: Row,
-        cfa: u64,
-    ) -> Result<Registers, FrameRefusal>
-        ensures { frame_told result ≡ from_cfa shape stack.now process self row cfa }
+    fn from_cfa(self, lent: Lent<'_>, row: Row, cfa: u64) -> Result<Registers, FrameRefusal>
+        ensures { frame_told result ≡ from_cfa lent.entry.shape lent.entry.stack.now lent.entry.process self row cfa }
     {
         if is_low(self, caller_sp(cfa)) {
             self.refuse(FrameCause::CfaLow)
         } else {
             self.from_spots(
-                shape,
-                stack,
-                process,
-                mask_of(shape, row, process),
+                lent,
+                mask_of(lent.shape, row, lent.process),
                 cfa,
                 spot_of(cfa, row.ra),
                 spot_of(cfa, row.fp),
@@ -122,7 +126,14 @@ impl Registers {
         }
         match cfa_of(self, row) {
             None => self.refuse(FrameCause::CfaOutside),
-            Some(cfa) => self.from_cfa(shape, stack, process, row, cfa),
+            Some(cfa) => {
+                let lent = Lent {
+                    shape,
+                    stack,
+                    process,
+                };
+                self.from_cfa(lent, row, cfa)
+            }
         }
     }
 
