@@ -6,6 +6,3 @@ use Rattle.ask.proofs.land.ask.Goals as goal
 
 pub layout_at-requires : goal.layout_at-requires
 layout_at-requires c = ((header_exactly_when _).0 (sym c.in-Ok.ensures)).rule1
-
-pub ask_in-requires : goal.ask_in-requires
-ask_in-requires c = record { sound = sym c.in-Ok.ensures; layout_is = c.layout_at.ensures }

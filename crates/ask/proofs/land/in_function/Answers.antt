@@ -15,11 +15,6 @@ use Rattle.ask.proofs.land.in_function.Goals.{After-shape_of, Start}
 pub order_at-requires : goal.order_at-requires
 order_at-requires c = (header_obeys c.requires.0).rule1
 
-pub entry_in-entry-requires : goal.entry_in-entry-requires
-entry_in-entry-requires c =
-    let pre = c.requires in
-    (record { header = pre.0; order_is = c.order_at.ensures }, pre.1)
-
 -- ---- the row area
 area_within : (c : Start) → c.args.layout.area ≤ length c.args.section.now
 area_within c = rw c.requires.0.layout_is (area_inside (header_obeys c.requires.0))
