@@ -1,6 +1,6 @@
 // What the arguments give: numbers, and files that are read. What is wrong with one is said on standard error.
 use crate::console::Console;
-use crate::rooms::{LARGEST, Room, read_into};
+use crate::rooms::{LARGEST, Long, Room, in_rooms, read_into};
 use crate::say::{Given, complain, complain_of_error, note};
 use crate::status::{ARGUMENT, argument};
 use digits::{parse, parse_decimal};
@@ -124,7 +124,7 @@ fn complain_of_file(console: &Console, name: &[u8], error: io::Error) {
 }
 
 // A file that is longer than the largest room that can be had.
-pub fn complain_of_length(rt: &impl Env, console: &Console, i: usize, room: Room) {
+fn complain_of_length(rt: &impl Env, console: &Console, i: usize, room: Room) {
     let bytes = room.bytes();
     let reason = if bytes < LARGEST as u64 {
         "for which the stack limit leaves no room: 'ulimit -s' raises it"
@@ -179,7 +179,7 @@ fn error_of(unread: FillError) -> io::Error {
 
 // Opens the file that argument i names, unless what is wrong with it was told. `unnamed` is what the message is about where the name
 // itself is too long.
-pub fn open_given<R: Env + Files>(
+fn open_given<R: Env + Files>(
     rt: &R,
     console: &Console,
     i: usize,
@@ -192,6 +192,27 @@ pub fn open_given<R: Env + Files>(
             None
         }
         Ok(n) => open_named(rt, console, &name[..n]),
+    }
+}
+
+// Opens the file that argument i names, and makes an attempt in each room that can be had, up to the largest, until one holds it.
+pub fn try_given<R: Env + Files, A>(
+    rt: &R,
+    console: &Console,
+    i: usize,
+    unnamed: &str,
+    largest: Room,
+    attempt: &A,
+)
+where
+    A: Fn(&mut Opened<R::File>, &mut [u8]) -> Result<(), Long>,
+    requires { A.IsAlwaysCallable attempt.now }
+{
+    let Some(mut opened) = open_given(rt, console, i, unnamed) else {
+        return;
+    };
+    if let Err(Long) = in_rooms(largest, &mut opened, attempt) {
+        complain_of_length(rt, console, i, largest);
     }
 }
 

@@ -1,8 +1,8 @@
 // The file of the section, in a room that holds it.
 use crate::answers::{Question, answer};
-use crate::arguments::{Opened, complain_of_length, open_given, read_given};
+use crate::arguments::{Opened, read_given, try_given};
 use crate::console::Console;
-use crate::rooms::{LARGEST, Long, in_rooms, largest_within, left_for_rooms, stack_limit};
+use crate::rooms::{LARGEST, Long, largest_within, left_for_rooms, stack_limit};
 use crate::say::complain;
 use std::rt::{Env, Files};
 
@@ -44,13 +44,8 @@ pub fn ask<R: Env + Files + Input>(rt: &R, console: &Console, question: Question
         complain_of_stack(rt, console);
         return;
     };
-    let Some(mut opened) = open_given(rt, console, 2, "sframe: FILE") else {
-        return;
-    };
     let attempt = |opened: &mut Opened<R::File>, room: &mut [u8]| {
         ask_in(rt, console, opened, question, left, room)
     };
-    if let Err(Long) = in_rooms(largest, &mut opened, &attempt) {
-        complain_of_length(rt, console, 2, largest);
-    }
+    try_given(rt, console, 2, "sframe: FILE", largest, &attempt);
 }

@@ -1,9 +1,7 @@
 // One caller, why it is that, and a whole trace: the arguments that all take, the file of the stack window, and the calls.
-use crate::arguments::{
-    Opened, complain_of_length, count_given, is_input, number_given, open_given, read_given,
-};
+use crate::arguments::{Opened, count_given, is_input, number_given, read_given, try_given};
 use crate::console::Console;
-use crate::rooms::{Long, Room, in_rooms, largest_within};
+use crate::rooms::{Long, Room, largest_within};
 use crate::say::complain;
 use crate::show_step_why::show_step_why;
 use crate::show_walks::{show_limit, show_step, show_trace, show_untraced};
@@ -130,15 +128,10 @@ fn is_one_input(rt: &impl Env, console: &Console) -> bool {
 
 // In a room up to this one.
 fn walk_opened<R: Env + Files + Input>(rt: &R, console: &Console, walk: Walk<'_>, largest: Room) {
-    let Some(mut opened) = open_given(rt, console, 4, "sframe: STACK") else {
-        return;
-    };
     let attempt = |opened: &mut Opened<R::File>, room: &mut [u8]| walk_in(
         rt, console, opened, walk, room,
     );
-    if let Err(Long) = in_rooms(largest, &mut opened, &attempt) {
-        complain_of_length(rt, console, 4, largest);
-    }
+    try_given(rt, console, 4, "sframe: STACK", largest, &attempt);
 }
 
 // With so much of the stack left for the room of the window; the smallest room was left free for it.
