@@ -12,14 +12,14 @@ use section::shape::Shape;
 
 // Whether an info byte has bit 6 or 7 set, or a row type above 2.
 #[tactic(auto, unfolding(crate::specs::Computed::Checks::wrong_entry_info))]
-fn wrong_entry_info(info: u8) -> bool
+pub fn wrong_entry_info(info: u8) -> bool
     ensures { result ≡ wrong_entry_info info }
 {
     bit_of(6, info) || bit_of(7, info) || 2 < type_of(info)
 }
 
 // Whether a block repeats by nothing.
-fn wrong_repeat(info: u8, repeat: u8) -> bool
+pub fn wrong_repeat(info: u8, repeat: u8) -> bool
     ensures { result ≡ repeats info && eqb repeat 0 }
 {
     does_repeat(info) && repeat == 0

@@ -5,6 +5,10 @@ use Rattle.accept.proofs.entry_check.check_entry.Kinds as check_entry-kinds
 use Rattle.accept.proofs.entry_check.check_entry.Reads as check_entry-reads
 use Rattle.accept.proofs.entry_check.check_own.Kinds as check_own-kinds
 use Rattle.accept.proofs.entry_check.check_own.Reads as check_own-reads
+use Rattle.accept.proofs.entry_check.wrong_entry_info.Kinds as wrong_entry_info-kinds
+use Rattle.accept.proofs.entry_check.wrong_entry_info.Reads as wrong_entry_info-reads
+use Rattle.accept.proofs.entry_check.wrong_repeat.Kinds as wrong_repeat-kinds
+use Rattle.accept.proofs.entry_check.wrong_repeat.Reads as wrong_repeat-reads
 use Rattle.accept.proofs.header_check.check_header.Kinds as check_header-kinds
 use Rattle.accept.proofs.header_check.check_header.Reads as check_header-reads
 use Rattle.accept.proofs.row_check.pass_row.Kinds as pass_row-kinds
@@ -17,6 +21,12 @@ use Rattle.accept.proofs.ToldLaws.{fault_told_once, rows_told_once, verdict_told
 use Rattle.accept.proofs.verdict.Rule.number.Kinds as Rule_number-kinds
 use Rattle.accept.proofs.verdict.Rule.number.Reads as Rule_number-reads
 use Rattle.promises.specs.Determined.{Determined}
+
+pub wrong_entry_info_determined : Determined wrong_entry_info-kinds.ps wrong_entry_info-kinds.r wrong_entry_info-reads.Learnt
+wrong_entry_info_determined κs a z z' w w' p q = (p ∙ sym q, refl)
+
+pub wrong_repeat_determined : Determined wrong_repeat-kinds.ps wrong_repeat-kinds.r wrong_repeat-reads.Learnt
+wrong_repeat_determined κs a z z' w w' p q = (p ∙ sym q, refl)
 
 pub check_own_determined : Determined check_own-kinds.ps check_own-kinds.r check_own-reads.Learnt
 check_own_determined κs a z z' w w' p q = (fault_told_once _ _ (p ∙ sym q), refl)
