@@ -4,11 +4,9 @@
 // the code of the width, a space, L or B for the order, U or S for unsigned or signed, and the line's end.
 #![tactic(auto)]
 
-ghost use Rattle.std.specs.Prelude.{◌<◌};
-
 use numbers::field::{NumberError, Order, number_at, width_of};
 use numbers::offset::offset_at;
-use reading::load;
+use reading::{digit, load};
 use std::io;
 use std::io::{BufWriter, Write};
 
@@ -21,13 +19,6 @@ struct Question {
     at: usize,
     code: usize,
     order: Order,
-}
-
-// The digit that a byte of text stands for.
-fn digit(text: u8) -> usize
-    ensures { result < 10 }
-{
-    (text as usize).saturating_sub(48) % 10
 }
 
 fn question_in(line: &[u8; 32]) -> Question {

@@ -1,5 +1,7 @@
-// Files that a program is run on, and what the system says of one that it cannot open.
+// Files that a program is run on, the digits that stand in them, and what the system says of one that it cannot open.
 #![tactic(auto)]
+
+ghost use Rattle.std.specs.Prelude.{◌<◌};
 
 use std::io::{Read, Write};
 use std::rt::Files;
@@ -42,4 +44,11 @@ pub fn load<R: Files + Eprint + Alloc>(rt: &R, path: &str, most: u64) -> io::Res
         }
     }
     Ok(bytes)
+}
+
+// The digit that a byte of text stands for.
+pub fn digit(text: u8) -> usize
+    ensures { result < 10 }
+{
+    (text as usize).saturating_sub(48) % 10
 }

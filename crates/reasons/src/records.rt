@@ -27,16 +27,9 @@ impl<'a> Iterator for Records<'a> {
 
     fn next(&mut self) -> Option<Option<Record<'a>>> {
         let (head, behind) = self.0.split_first_chunk::<80>()?;
-        match record_behind(head, behind) {
-            Some((record, rest)) => {
-                self.0 = rest;
-                Some(Some(record))
-            }
-            None => {
-                self.0 = &[];
-                Some(None)
-            }
-        }
+        let (record, rest) = record_behind(head, behind).unzip();
+        self.0 = rest.unwrap_or(&[]);
+        Some(record)
     }
 }
 

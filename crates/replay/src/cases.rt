@@ -7,6 +7,7 @@ ghost use Rattle.std.specs.Prelude.{◌≤◌, ◌<◌, length, IfSome};
 ghost use Rattle.std.specs.Iterator.{at_most};
 
 use numbers::field::{Order, u64_at};
+use reading::digit;
 
 #[derive(Clone, Copy)]
 pub struct Case<'a> {
@@ -27,16 +28,9 @@ impl<'a> Iterator for Cases<'a> {
 
     fn next(&mut self) -> Option<Option<Case<'a>>> {
         let (head, behind) = self.0.split_first_chunk::<66>()?;
-        match case_behind(head, behind) {
-            Some((case, rest)) => {
-                self.0 = rest;
-                Some(Some(case))
-            }
-            None => {
-                self.0 = &[];
-                Some(None)
-            }
-        }
+        let (case, rest) = case_behind(head, behind).unzip();
+        self.0 = rest.unwrap_or(&[]);
+        Some(case)
     }
 }
 
@@ -59,14 +53,9 @@ fn case_behind<'a>(head: &'a [u8; 66], behind: &'a [u8]) -> Option<(Case<'a>, &'
 
 // The number that decimal digits make. A case has 8 of them, so that it is exact.
 fn number_in(digits: &[u8]) -> usize {
-    digits.iter().fold(0usize, |number, digit| {
-        number.saturating_mul(10).saturating_add(digit_of(*digit))
+    digits.iter().fold(0usize, |number, text| {
+        number.saturating_mul(10).saturating_add(digit(*text))
     })
-}
-
-// The digit that a byte of text stands for.
-fn digit_of(text: u8) -> usize {
-    (text as usize).saturating_sub(48) % 10
 }
 
 // The section's address and the PC of a question.
