@@ -124,7 +124,7 @@ fn complain_of_file(console: &Console, name: &[u8], error: io::Error) {
 }
 
 // A file that is longer than the largest room that can be had.
-fn complain_of_length(rt: &impl Env, console: &Console, i: usize, room: Room) {
+pub fn complain_of_length(rt: &impl Env, console: &Console, i: usize, room: Room) {
     let bytes = room.bytes();
     let reason = if bytes < LARGEST as u64 {
         "for which the stack limit leaves no room: 'ulimit -s' raises it"
@@ -179,7 +179,7 @@ fn error_of(unread: FillError) -> io::Error {
 
 // Opens the file that argument i names, unless what is wrong with it was told. `unnamed` is what the message is about where the name
 // itself is too long.
-fn open_given<R: Env + Files>(
+pub fn open_given<R: Env + Files>(
     rt: &R,
     console: &Console,
     i: usize,
