@@ -1,7 +1,7 @@
 //! Holds what crates/promises states against the public functions of the libraries: each has a statement about its own
-//! contract, each that asks something of its callers is shown to ask for what can be, and docs/PROMISES.md says why it
-//! asks. What the prover cannot see is found here: a function that nothing is stated of. A static library has no function
-//! of its own: each is one of a library, says what that one says, and calls it.
+//! contract, but for two that read a file; each that asks something of its callers is shown to ask for what can be, and
+//! docs/PROMISES.md says why it asks. What the prover cannot see is found here: a function that nothing is stated of. A
+//! static library has no function of its own: each is one of a library, says what that one says, and calls it.
 
 use std::fs;
 use std::path::{Path, PathBuf};
@@ -379,15 +379,15 @@ fn faults(functions: &[Function], proofs: &[Proofs], document: &str) -> Vec<Stri
     faults
 }
 
-/// A program's public functions answer nothing that could be stated: the document says of each that it is excepted, and
-/// of no other.
+/// A program's public functions answer nothing that could be stated, nor does what is excepted of a library: the document
+/// says of each that it is excepted, and of no other.
 fn excepted_faults(functions: &[Found], document: &str) -> Vec<String> {
     let excepted: Vec<&str> =
         rows(document).into_iter().filter(|(_, head)| head.starts_with("| Excepted |")).map(|(name, _)| name).collect();
     let silent = functions.iter().filter(|function| !excepted.contains(&function.name.as_str()));
     let mut faults: Vec<String> = silent.map(|function| format!("{}: it is not excepted", function.name)).collect();
     let gone = excepted.iter().filter(|name| !functions.iter().any(|function| function.name == **name));
-    faults.extend(gone.map(|name| format!("{name}: no program has what is excepted")));
+    faults.extend(gone.map(|name| format!("{name}: nothing has what is excepted")));
     faults
 }
 
@@ -490,22 +490,24 @@ fn static_libraries() -> Vec<String> {
     crates.lines().filter_map(|line| line.split_once(" staticlib:")).map(|(name, _)| name.to_string()).collect()
 }
 
-/// The libraries that are parts of programs: what they read and write is no more a reply than what those do.
-const OF_PROGRAMS: [&str; 2] = ["reading", "stored"];
+/// The public functions of a library, with their library, of which nothing could be stated: they read a file for the
+/// programs, and no contract of the standard library says what a file gives.
+const EXCEPTED: [(&str, &str); 2] = [("reading", "load"), ("reading", "read_into")];
 
-fn is_of_programs(path: &Path) -> bool {
-    path.join("src/main.rt").exists() || OF_PROGRAMS.iter().any(|name| path.ends_with(name))
+fn is_excepted(library: &str, function: &str) -> bool {
+    EXCEPTED.contains(&(library, function))
 }
 
-/// The public functions of all libraries, but for the static ones and the parts of programs.
+/// The public functions of all libraries, but for the static ones and what is excepted.
 fn of_libraries() -> Vec<Function> {
     let is_static = |path: &PathBuf| static_libraries().iter().any(|name| path.ends_with(name));
     let libraries = listed(&in_repository("crates")).into_iter().filter(|path| path.join("src/lib.rt").exists());
-    let libraries = libraries.filter(|path| !is_static(path) && !is_of_programs(path));
+    let libraries = libraries.filter(|path| !is_static(path));
     let mut functions = Vec::new();
     for library in libraries {
         let name = library.file_name().and_then(|name| name.to_str()).expect("a name");
-        functions.extend(functions_of(name, &sources_in(&library.join("src"), "")));
+        let found = functions_of(name, &sources_in(&library.join("src"), ""));
+        functions.extend(found.into_iter().filter(|function| !is_excepted(name, &function.name)));
     }
     let named = Proofs::of(&text_of(&in_repository("crates/promises/specs/ReaderSays.antt")));
     for function in &mut functions {
@@ -564,13 +566,24 @@ fn a_static_library_says_and_does_what_its_library_does() {
     }
 }
 
+fn found_in(folder: &Path) -> Vec<Found> {
+    sources_in(folder, "").iter().flat_map(|source| public_functions(&source.text)).collect()
+}
+
 #[test]
 fn every_public_function_of_a_program_is_excepted() {
-    let programs = listed(&in_repository("crates")).into_iter().filter(|path| is_of_programs(path));
-    let sources: Vec<Source> = programs.flat_map(|program| sources_in(&program.join("src"), "")).collect();
-    let functions: Vec<Found> = sources.iter().flat_map(|source| public_functions(&source.text)).collect();
+    let programs = listed(&in_repository("crates")).into_iter().filter(|path| path.join("src/main.rt").exists());
+    let mut functions: Vec<Found> = programs.flat_map(|program| found_in(&program.join("src"))).collect();
     let document = text_of(&in_repository("docs/PROMISES.md"));
     assert!(!functions.is_empty(), "no program was found");
+    assert!(
+        document.contains("`load` and `read_into` of `reading` are parts of the programs"),
+        "PROMISES names no exception"
+    );
+    for (library, name) in EXCEPTED {
+        let found = found_in(&in_repository("crates").join(library).join("src"));
+        functions.extend(found.into_iter().filter(|function| function.name == name));
+    }
     assert_eq!(excepted_faults(&functions, &document), Vec::<String>::new());
 }
 
@@ -804,9 +817,16 @@ fn what_is_said_of_no_function_is_found() {
 }
 
 #[test]
+fn what_is_excepted_is_of_its_library_alone() {
+    assert!(is_excepted("reading", "load"));
+    assert!(!is_excepted("reading", "digit"));
+    assert!(!is_excepted("stored", "load"));
+}
+
+#[test]
 fn an_exception_is_of_a_program_that_has_it() {
     let functions = public_functions("pub fn say(text: &[u8]) {}\npub fn loud(text: &[u8]) {}");
     let document = "| Excepted | What it prints |\n|---|---|\n| `say` | a text |\n| `gone` | nothing |\n";
     let faults = excepted_faults(&functions, document);
-    assert_eq!(faults, ["loud: it is not excepted", "gone: no program has what is excepted"]);
+    assert_eq!(faults, ["loud: it is not excepted", "gone: nothing has what is excepted"]);
 }

@@ -100,6 +100,17 @@ padding_zero [] p e = absurd (omega arith)
 padding_zero (byte ∷ []) p e = absurd (omega arith)
 padding_zero (byte ∷ next ∷ text) p e = rw (eq-eqb byte 48 e, padding)
 
+-- no more zeros go in front than there are bytes
+pub padding_within : (text : List ℕ) → padding text ≤ length text
+unfolding padding
+padding_within [] = omega arith
+padding_within (byte ∷ []) = omega arith
+padding_within (byte ∷ next ∷ text) = either (eqb byte 48) (padding_within (next ∷ text)) where
+  either : (is_zero : Bool) → padding (next ∷ text) ≤ length (next ∷ text)
+      → elim is_zero [ true ↦ suc (padding (next ∷ text)) | false ↦ 0 ] ≤ length (byte ∷ next ∷ text)
+  either true p = omega arith
+  either false p = omega arith
+
 -- the code's part of text behind its first bytes
 behind : (n : ℕ) (text : List ℕ) → take (length text - n) (drop n text) ≡ drop n text
 behind n text = take_all (length text - n) (drop n text) (simp length-drop (omega arith))

@@ -43,7 +43,11 @@ fn with_if(known: Coverers, i: u64, covers: bool) -> Coverers
     requires { known.count < 2 ^ 32 }
     ensures { result ≡ with_if covers i known }
 {
-    if covers { with_index(known, i) } else { known }
+    // With both ways as one value, all indexes are copied in each turn, whether it covers or not.
+    if covers {
+        return with_index(known, i);
+    }
+    known
 }
 
 // Whether function i covers the PC.

@@ -11,7 +11,7 @@ use std::io;
 use std::io::{BufWriter, Write};
 
 // The most bytes that are read of each file.
-const MOST: u64 = 4_096;
+const MOST: usize = 4_096;
 
 // A number that is asked for: where it stands, and how wide it is.
 #[derive(Clone, Copy)]
@@ -73,11 +73,13 @@ fn main(rt: HostRuntime) -> io::Result<()> {
         out,
         "what                    place, code of the width, order and sign; number"
     )?;
-    let section = load(&rt, "S.sframe", MOST)?;
-    let questions = load(&rt, "questions.txt", MOST)?;
+    let mut room = [0u8; MOST];
+    let section = load(&rt, "S.sframe", &mut room)?;
+    let mut room = [0u8; MOST];
+    let questions = load(&rt, "questions.txt", &mut room)?;
     let (lines, _) = questions.as_chunks::<32>();
     for line in lines {
-        answer(&mut out, &section, line)?;
+        answer(&mut out, section, line)?;
     }
     out.flush()
 }

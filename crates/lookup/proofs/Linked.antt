@@ -153,7 +153,7 @@ module _ (look : Symbol → Entry) (in_numbers : numbers.Finds look) (in_section
   search_bound_of = link-search-bound_of.has look false here.search_bound_of
 
   pub search_rank_at : HasT look false link-search-rank_at.code
-  search_rank_at = link-search-rank_at.has look false here.search_rank_at (numbers.field_u32_at look in_numbers) (numbers.held_rank_of look in_numbers) (section.entry_position_at look in_numbers in_section)
+  search_rank_at = link-search-rank_at.has look false here.search_rank_at (numbers.field_u32_at look in_numbers) (numbers.held_rank_of look in_numbers)
 
   pub search_halve : HasT look false link-search-halve.code
   search_halve = link-search-halve.has look false here.search_halve search_bound_of search_rank_at

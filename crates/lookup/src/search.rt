@@ -13,7 +13,6 @@ ghost use Rattle.section.specs.Meaning.{Function, entry_in, function_in, functio
 use crate::table::{Table, table_in};
 use numbers::field::u32_at;
 use numbers::held::{near_of, rank_of};
-use section::entry::position_at;
 use section::header::Layout;
 
 // How the least field, -2^31, is held: 2^31.
@@ -48,9 +47,9 @@ fn rank_at(table: Table<'_>, i: u64) -> u64
     requires { i < table.layout.functions }
     ensures { Held (function_start table.entry.section.now i) (result + 2 ^ 31) }
 {
-    let place = (table.layout.table + 20 * i) as u32;
-    rank_of(u32_at(table.section, place as usize, table.order))
-        + position_at(table.layout.relative, place) as u64
+    let place = table.layout.table + 20 * i;
+    let position = if table.layout.relative { place } else { 0 };
+    rank_of(u32_at(table.section, place as usize, table.order)) + position
 }
 
 // The size of function i. Of its entry only this field is read.

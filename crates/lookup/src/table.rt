@@ -29,7 +29,8 @@ pub(crate) fn table_in<'a>(section: &'a [u8], layout: Layout) -> Table<'a>
     }
 }
 
-// Entry i.
+// Entry i. It is inlined, so that a loop reads no more of an entry than it looks at.
+#[inline(always)]
 pub fn entry_in(section: &[u8], layout: Layout, order: Order, i: u64) -> Entry
     requires { TableOf section.now layout order × (i < layout.functions) }
     ensures { result ≡ entry_in section.now i }

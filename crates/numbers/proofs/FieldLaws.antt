@@ -85,3 +85,16 @@ byte_is bytes at h = sym (one_digit bytes at Little h)
 
 pub byte_in : (bytes : List ℕ) (at : ℕ) (order : Order) → at + 1 ≤ length bytes → byte_of bytes at ≡ field_of bytes at 1 order
 byte_in bytes at order h = sym (byte_is bytes at h) ∙ sym (one_digit bytes at order h)
+
+-- ---- how large a field is
+
+digits_below : (f : ℕ → ℕ) → ((j : ℕ) → f j < 256) → (n k : ℕ) → digits (values_of f n k) < 256 ^ n
+unfolding digits
+digits_below f h zero k = lit< tt
+digits_below f h (suc n) k = rw pow-succ' (omega (arith, h k, digits_below f h n (suc k)))
+
+-- a field whose bytes are below 256 is below 256 ^ width
+pub field_below : (bytes : List ℕ) → ((k : ℕ) → get_or bytes k 0 < 256) → (at width : ℕ) (order : Order) → at + width ≤ length bytes
+    → field_of bytes at width order < 256 ^ width
+field_below bytes small at width order h =
+    rw (by_digits bytes at width order h) (digits_below _ (λ j. small (digit_place order at width j)) width 0)

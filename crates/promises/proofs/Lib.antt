@@ -31,6 +31,7 @@ pub mod OrderLaws
 pub mod PassedRowsKept
 pub mod PassedRowsOfS
 pub mod Ran
+pub mod ReadingDetermined
 pub mod Replies
 pub mod RequiresMet
 pub mod ReturnByLaws
@@ -44,6 +45,7 @@ pub mod SameListings
 pub mod SectionDetermined
 pub mod SignedKept
 pub mod SortedLaws
+pub mod StoredDetermined
 pub mod SuntimpaniDetermined
 pub mod TableHolds
 pub mod TraceDetermined

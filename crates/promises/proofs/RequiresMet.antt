@@ -51,6 +51,8 @@ use Rattle.explain.proofs.looked.explain_look.Reads as explain_look-reads
 use Rattle.explain.proofs.nearby.nearest_at.Reads as nearest_at-reads
 use Rattle.trace.specs.declared.answer.Frame.{Frame}
 use Rattle.trace.proofs.answer.write_frame.Reads as write_frame-reads
+use Rattle.stored.proofs.start_in.Reads as start_in-reads
+use Rattle.stored.proofs.word_in.Reads as word_in-reads
 use Rattle.promises.specs.Inner.Lent.{Lies, lent, lent_to_write}
 
 -- ---- numbers
@@ -249,3 +251,14 @@ nearest_at_met κs here side address pc = record { sound = refl; layout_is = ref
 pub write_frame_met :
     (κs : Lfts 1) (here : Lies) (a b c : ℕ) (frame : Frame) → write_frame-reads.Asked κs (lent_to_write here (a ∷ b ∷ c ∷ []), (0, (frame, tt)))
 write_frame_met κs here a b c frame = omega arith
+
+-- ---- stored: S is longer than what a walk begins by
+
+-- the last whole word
+pub word_in_met : (κs : Lfts 1) (here : Lies) → word_in-reads.Asked κs (lent here section_s, (8, tt))
+unfolding section_s
+word_in_met κs here = omega arith
+
+pub start_in_met : (κs : Lfts 1) (here : Lies) → start_in-reads.Asked κs (lent here section_s, tt)
+unfolding section_s
+start_in_met κs here = omega arith

@@ -1,60 +1,56 @@
 // Why a step gives its answer, as a line.
-use crate::lookups::{show_found, show_not_found};
+use crate::lines::Lines;
+use crate::lookups::{show_found, show_not_found, show_refusal};
 use crate::records::Record;
 use caller::place::Needed;
+use caller::registers::Registers;
 use explain::stepped::explain_step;
 use explain::sums::{Sum, sum_of};
 use explain::why::{RowReason, StepReason};
 use numbers::offset::Offset;
-use std::io::Write;
-use std::{fmt, io};
-use stored::{Broken, Words};
 
 // A base and an offset, and their exact sum.
-#[derive(Clone, Copy)]
-struct Added {
-    base: u64,
-    offset: Offset,
-}
-
-impl fmt::Display for Added {
-    fn fmt<W: fmt::Write>(&self, f: &mut fmt::Formatter<W>) -> fmt::Result {
-        let Added { base, offset } = *self;
-        write!(f, "{base:016x} offset {:+} sum ", offset.by)?;
-        match sum_of(base, offset) {
-            Sum::At(sum) => write!(f, "at {sum:016x}"),
-            Sum::Below(by) => write!(f, "below {by}"),
-            Sum::Above(by) => write!(f, "above {by}"),
-        }
+fn show_sum(lines: &mut Lines, name: &[u8], base: u64, offset: Offset) {
+    lines.word(name, base);
+    lines.offset(b" offset ", offset);
+    match sum_of(base, offset) {
+        Sum::At(sum) => lines.word(b" sum at ", sum),
+        Sum::Below(by) => lines.number(b" sum below ", by),
+        Sum::Above(by) => lines.number(b" sum above ", by),
     }
 }
 
-fn name_of(word: Needed) -> &'static str {
-    match word {
-        Needed::Ra => "ra",
-        Needed::Fp => "fp",
-    }
+fn show_registers(lines: &mut Lines, registers: Registers) {
+    lines.word(b"caller ", registers.pc);
+    lines.word(b" ", registers.sp);
+    lines.word(b" ", registers.fp);
+    lines.word(b" ", registers.lr);
+    lines.word(b" ", registers.first);
 }
 
 // What a row comes to.
-fn show_reason(out: &mut impl Write, reason: RowReason) -> io::Result<()> {
+fn show_reason(lines: &mut Lines, reason: RowReason) {
     match reason {
         RowReason::Caller { caller, cfa, ra } => {
-            write!(out, "caller {} cfa {cfa:016x} ra {ra:016x}", Words(caller))
+            show_registers(lines, caller);
+            lines.word(b" cfa ", cfa);
+            lines.word(b" ra ", ra);
         }
         RowReason::Signed { signed, mask } => {
-            write!(out, "24 signed {} mask {mask:016x}", signed as u8)
+            lines.number(b"24 signed ", signed as u64);
+            lines.word(b" mask ", mask);
         }
-        RowReason::CfaOutside { base, offset } => write!(out, "25 base {}", Added { base, offset }),
+        RowReason::CfaOutside { base, offset } => show_sum(lines, b"25 base ", base, offset),
         RowReason::CfaLow {
             callersp,
             sp,
             first,
-        } => write!(
-            out,
-            "26 callersp {callersp:016x} sp {sp:016x} first {first:016x}"
-        ),
-        RowReason::RaLost { first } => write!(out, "27 first {first:016x}"),
+        } => {
+            lines.word(b"26 callersp ", callersp);
+            lines.word(b" sp ", sp);
+            lines.word(b" first ", first);
+        }
+        RowReason::RaLost { first } => lines.word(b"27 first ", first),
         RowReason::WordOutside {
             word,
             cfa,
@@ -62,42 +58,43 @@ fn show_reason(out: &mut impl Write, reason: RowReason) -> io::Result<()> {
             stack,
             length,
         } => {
-            let name = name_of(word);
-            let address = Added { base: cfa, offset };
-            write!(
-                out,
-                "28 {name} cfa {address} stack {stack:016x} length {length}"
-            )
+            match word {
+                Needed::Ra => show_sum(lines, b"28 ra cfa ", cfa, offset),
+                Needed::Fp => show_sum(lines, b"28 fp cfa ", cfa, offset),
+            }
+            lines.word(b" stack ", stack);
+            lines.number(b" length ", length);
         }
     }
 }
 
-pub fn show_step(out: &mut impl Write, record: Record<'_>) -> io::Result<()> {
+pub fn show_step(lines: &mut Lines, record: Record<'_>) {
     let why = explain_step(
         record.section,
         record.stack,
         record.process,
         record.registers,
     );
-    let coverers = why.coverers;
-    write!(out, "step ")?;
+    lines.text(b"step ");
     match why.reason {
-        StepReason::Window { stack, length } => write!(
-            out,
-            "41 stack {stack:016x} length {length}"
-        )?,
-        StepReason::Unsound(refusal) => write!(out, "refused {}", Broken(refusal))?,
-        StepReason::NothingAsked => write!(out, "21 nothing asked")?,
-        StepReason::NotFound { pc, why } => {
-            write!(out, "at {pc:016x} ")?;
-            show_not_found(out, why, coverers)?;
+        StepReason::Window { stack, length } => {
+            lines.word(b"41 stack ", stack);
+            lines.number(b" length ", length);
+        }
+        StepReason::Unsound(refusal) => show_refusal(lines, refusal),
+        StepReason::NothingAsked => lines.text(b"21 nothing asked"),
+        StepReason::NotFound { pc, why: missing } => {
+            lines.word(b"at ", pc);
+            lines.text(b" ");
+            show_not_found(lines, missing, why.coverers);
         }
         StepReason::FromRow { found, reason, pc } => {
-            write!(out, "at {pc:016x} ")?;
-            show_found(out, found)?;
-            write!(out, " then ")?;
-            show_reason(out, reason)?;
+            lines.word(b"at ", pc);
+            lines.text(b" ");
+            show_found(lines, found);
+            lines.text(b" then ");
+            show_reason(lines, reason);
         }
     }
-    writeln!(out)
+    lines.text(b"\n");
 }

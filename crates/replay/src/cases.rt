@@ -39,7 +39,7 @@ fn case_behind<'a>(head: &'a [u8; 66], behind: &'a [u8]) -> Option<(Case<'a>, &'
     ensures { IfSome result (λ found. length found.1.now ≤ length behind.now) }
 {
     let (section, behind) = behind.split_at_checked(number_in(&head[39..47]))?;
-    let (questions, behind) = behind.split_at_checked(number_in(&head[48..56]).saturating_mul(16))?;
+    let (questions, behind) = behind.split_at_checked(questions_in(&head[48..56]))?;
     let (questions, _) = questions.as_chunks::<16>();
     let (walks, behind) = behind.split_at_checked(number_in(&head[57..65]))?;
     let case = Case {
@@ -51,11 +51,23 @@ fn case_behind<'a>(head: &'a [u8; 66], behind: &'a [u8]) -> Option<(Case<'a>, &'
     Some((case, behind))
 }
 
-// The number that decimal digits make. A case has 8 of them, so that it is exact.
-fn number_in(digits: &[u8]) -> usize {
-    digits.iter().fold(0usize, |number, text| {
+// The number that 8 decimal digits make, which is no larger than this.
+const NUMBER: usize = 99_999_999;
+
+fn number_in(digits: &[u8]) -> usize
+    ensures { result < 100000000 }
+{
+    let number = digits.iter().fold(0usize, |number, text| {
         number.saturating_mul(10).saturating_add(digit(*text))
-    })
+    });
+    number.min(NUMBER)
+}
+
+// How many bytes so many questions have.
+fn questions_in(digits: &[u8]) -> usize
+    ensures { result < 1600000000 }
+{
+    number_in(digits) * 16
 }
 
 // The section's address and the PC of a question.

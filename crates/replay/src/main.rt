@@ -19,7 +19,7 @@ use std::io;
 use std::io::{BufWriter, Write};
 
 // More than the cases have, so that a file that fills it shows as cut.
-const MOST: u64 = 2_000_000;
+const MOST: usize = 2_000_000;
 
 // Everything that is looked up in one section.
 fn show_answers(out: &mut impl Write, case: Case<'_>) -> io::Result<()> {
@@ -70,9 +70,14 @@ fn replay(out: &mut impl Write, cases: &[u8]) -> io::Result<()> {
     Ok(())
 }
 
+fn room() -> [u8; MOST] {
+    [0u8; MOST]
+}
+
 fn main(rt: HostRuntime) -> io::Result<()> {
-    let cases = load(&rt, "cases", MOST)?;
+    let mut room = room();
+    let cases = load(&rt, "cases", &mut room)?;
     let mut out = BufWriter::new(rt.alloc(), io::writer(&rt))?;
-    replay(&mut out, &cases)?;
+    replay(&mut out, cases)?;
     out.flush()
 }

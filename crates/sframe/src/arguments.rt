@@ -1,9 +1,12 @@
 // What the arguments give: numbers, and files that are read. What is wrong with one is said on standard error.
+ghost use Rattle.std.specs.Prelude.{◌≤◌, length, IfSome};
+
 use crate::console::Console;
-use crate::rooms::{LARGEST, Long, Room, in_rooms, read_into};
+use crate::rooms::{LARGEST, Long, Room, in_rooms};
 use crate::say::{Given, complain, complain_of_error, note};
 use crate::status::{ARGUMENT, argument};
 use digits::{parse, parse_decimal};
+use reading::read_into;
 use std::env::FillError;
 use std::io::{Read, Seek};
 use std::rt::{Env, Files};
@@ -222,7 +225,9 @@ fn read_all<'a, F: Read>(
     file: &mut F,
     name: &[u8],
     room: &'a mut [u8],
-) -> Option<&'a [u8]> {
+) -> Option<&'a [u8]>
+    ensures { IfSome result (λ bytes. length bytes.now ≤ length room.old) }
+{
     let (bytes, end) = read_into(file, room);
     match end {
         Ok(()) => Some(bytes),
@@ -241,7 +246,9 @@ pub fn read_given<'a, R: Env + Input, F: Read + Seek>(
     i: usize,
     opened: &mut Opened<F>,
     room: &'a mut [u8],
-) -> Option<&'a [u8]> {
+) -> Option<&'a [u8]>
+    ensures { IfSome result (λ bytes. length bytes.now ≤ length room.old) }
+{
     match &mut opened.source {
         Source::Input => read_all(console, &mut rt.reader(), b"standard input", room),
         Source::Named(file) => {

@@ -2,144 +2,90 @@
 // can cut them.
 use crate::arguments::count_given;
 use crate::console::Console;
+use crate::line::Line;
 use crate::say::{complain, note, say};
 use crate::status::{argument_count, tell_refused};
-use crate::text::Named;
 use accept::section_check::check;
 use accept::verdict::Refusal;
 use listing::function::Kind;
-use listing::lines::{Cursor, FunctionLine, Line, LineTurn, cursor_over, next_line};
-use numbers::offset::{Shift, shift_of};
+use listing::lines::{Cursor, FunctionLine, LineTurn, cursor_over, next_line};
 use section::header::{Layout, layout_at};
-use section::row::{Place, Row};
+use section::row::{Base, Place, Row};
 use section::shape::Abi;
-use std::fmt;
 use std::rt::Env;
 
-// A start, by its sign, 0x, and 8 hexadecimal digits.
-#[derive(Clone, Copy)]
-struct Start(Shift);
-
-impl fmt::Display for Start {
-    fn fmt<W: fmt::Write>(&self, f: &mut fmt::Formatter<W>) -> fmt::Result {
-        match self.0 {
-            Shift::Up(by) => write!(f, "+0x{by:08x}"),
-            Shift::Down(by) => write!(f, "-0x{by:08x}"),
-        }
-    }
-}
-
-// The size of a repeated block, where there is one.
-#[derive(Clone, Copy)]
-struct Block(Kind);
-
-impl fmt::Display for Block {
-    fn fmt<W: fmt::Write>(&self, f: &mut fmt::Formatter<W>) -> fmt::Result {
-        match self.0 {
-            Kind::Plain => Ok(()),
-            Kind::Repeated(size) => write!(f, "  block{size:>4}"),
+// The size of a repeated block, where there is one. The answer is where the line ends.
+fn put_kind(line: &mut Line, kind: Kind) -> usize {
+    match kind {
+        Kind::Plain => 51,
+        Kind::Repeated(size) => {
+            line.put(53, b"block");
+            line.put_number(62, size as u64);
+            62
         }
     }
 }
 
 fn show_function(console: &Console, function: FunctionLine) {
-    let index = function.index;
-    let start = Start(shift_of(function.start));
-    let size = function.size;
-    let block = Block(function.kind);
-    say(
-        console,
-        format_args!("function{index:>7}  start {start}  size{size:>11}{block}\n"),
-    );
+    let mut line = Line::blank();
+    line.put(0, b"function");
+    line.put_number(15, function.index);
+    line.put(17, b"start");
+    line.put_start(function.start);
+    line.put(36, b"size");
+    line.put_number(51, function.size as u64);
+    let end = put_kind(&mut line, function.kind);
+    line.say(console, end);
 }
 
-// The offset of a saved register behind its name, in 16 columns, which are blank where it is in its register.
-#[derive(Clone, Copy)]
-struct Column {
-    name: &'static str,
-    place: Place,
-}
-
-impl Column {
-    fn is_blank(self) -> bool {
-        matches!(self.place, Place::Register)
-    }
-}
-
-impl fmt::Display for Column {
-    fn fmt<W: fmt::Write>(&self, f: &mut fmt::Formatter<W>) -> fmt::Result {
-        let Column { name, place } = *self;
-        match place {
-            Place::Register => f.write_str("                "),
-            Place::AtOffset(offset) => write!(f, "  {name}{:>+12}", offset.by),
+// The offset of a saved register, behind its name; nothing where it is in its register. The answer is where the line ends, which it
+// does at `end` before.
+fn put_place(line: &mut Line, end: usize, column: u8, name: &[u8], place: Place) -> usize {
+    match place {
+        Place::Register => end,
+        Place::AtOffset(offset) => {
+            let first = column as usize;
+            line.put(first, name);
+            line.put_offset(first + 14, offset);
+            first + 14
         }
     }
 }
 
-// RA, FP, and whether RA is signed. No blanks stand at the line's end.
-#[derive(Clone, Copy)]
-struct Columns {
-    ra: Column,
-    fp: Column,
-    signed: bool,
-}
-
-impl fmt::Display for Columns {
-    fn fmt<W: fmt::Write>(&self, f: &mut fmt::Formatter<W>) -> fmt::Result {
-        let Columns { ra, fp, signed } = *self;
-        if signed {
-            write!(f, "{ra}{fp}  signed")
-        } else if !fp.is_blank() {
-            write!(f, "{ra}{fp}")
-        } else if !ra.is_blank() {
-            write!(f, "{ra}")
-        } else {
-            Ok(())
-        }
-    }
-}
-
-// AMD64 has only FP here, in the columns of RA.
-fn columns_of(abi: Abi, row: Row) -> Columns {
-    let fp = Column {
-        name: "FP",
-        place: row.fp,
-    };
+// RA, FP, and whether RA is signed: AMD64 has only FP here, in the columns of RA. No blanks stand at the line's end.
+fn put_saved(line: &mut Line, abi: Abi, row: Row) -> usize {
     match abi {
-        Abi::Aarch64Big | Abi::Aarch64Little => Columns {
-            ra: Column {
-                name: "RA",
-                place: row.ra,
-            },
-            fp,
-            signed: row.signed,
-        },
-        Abi::Amd64 => Columns {
-            ra: fp,
-            fp: Column {
-                name: "FP",
-                place: Place::Register,
-            },
-            signed: false,
-        },
+        Abi::Amd64 => put_place(line, 37, 39, b"FP", row.fp),
+        Abi::Aarch64Big | Abi::Aarch64Little => {
+            let end = put_place(line, 37, 39, b"RA", row.ra);
+            let end = put_place(line, end, 55, b"FP", row.fp);
+            if row.signed {
+                line.put(71, b"signed");
+                return 77;
+            }
+            end
+        }
     }
 }
 
 fn show_row(console: &Console, abi: Abi, row: Row) {
-    let start = row.start;
-    let base = Named(row.base);
-    let cfa = row.cfa.by;
-    let columns = columns_of(abi, row);
-    say(
-        console,
-        format_args!("  row{start:>11}  {base}  CFA{cfa:>+12}{columns}\n"),
-    );
+    let mut line = Line::blank();
+    line.put(2, b"row");
+    line.put_number(16, row.start as u64);
+    match row.base {
+        Base::Fp => line.put(18, b"FP"),
+        Base::Sp => line.put(18, b"SP"),
+    }
+    line.put(22, b"CFA");
+    line.put_offset(37, row.cfa);
+    let end = put_saved(&mut line, abi, row);
+    line.say(console, end);
 }
 
-fn show_line(console: &Console, abi: Abi, line: Line) {
+fn show_line(console: &Console, abi: Abi, line: listing::lines::Line) {
     match line {
-        Line::OfFunction(function) => show_function(console, function),
-        Line::OfRow(row) => show_row(console, abi, row),
+        listing::lines::Line::OfFunction(function) => show_function(console, function),
+        listing::lines::Line::OfRow(row) => show_row(console, abi, row),
     }
 }
 

@@ -8,6 +8,7 @@ mod arguments;
 mod console;
 mod help;
 mod hints;
+mod line;
 mod list;
 mod meanings;
 mod refusals;

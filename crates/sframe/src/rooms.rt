@@ -1,9 +1,10 @@
 // How much of a file can be read. The room for it lies on this program's stack, which the system limits; so there are rooms of four
 // sizes, and what the limit leaves tells which of them can be had.
-ghost use Rattle.std.specs.Prelude.{◌<◌, ◌^◌};
+ghost use Rattle.std.specs.Prelude.{◌<◌, ◌≤◌, ◌^◌, length};
 
 use crate::arguments::{Opened, open_read};
 use digits::parse_decimal;
+use reading::read_into;
 use std::io;
 use std::io::Read;
 use std::rt::Files;
@@ -116,17 +117,10 @@ fn number_behind(text: &[u8], name: &[u8]) -> Option<u64> {
     parse_decimal(number.get(..end.unwrap_or(number.len()))?)
 }
 
-// Reads a file from where it stands to its end, as far as there is room. A read that fails ends it.
-pub fn read_into<'a>(file: &mut impl Read, room: &'a mut [u8]) -> (&'a [u8], io::Result<()>) {
-    let most = room.len();
-    let mut rest: &mut [u8] = room;
-    let end = io::copy(&mut file.take(most as u64), &mut rest);
-    let filled = most.saturating_sub(rest.len());
-    (room.get(..filled).unwrap_or(&[]), end.map(|_| ()))
-}
-
 // The first bytes of a file of the system's; none where it cannot be read.
-fn read_first<'a>(rt: &impl Files, path: &[u8], room: &'a mut [u8]) -> &'a [u8] {
+fn read_first<'a>(rt: &impl Files, path: &[u8], room: &'a mut [u8]) -> &'a [u8]
+    ensures { length result.now ≤ length room.old }
+{
     match open_read(rt, path) {
         Err(_) => &[],
         Ok(mut file) => read_into(&mut file, room).0,

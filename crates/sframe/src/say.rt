@@ -53,6 +53,13 @@ pub fn say<T: fmt::Display + Drop>(console: &Console, text: T) {
     }
 }
 
+// Bytes that were put together before.
+pub fn say_bytes(console: &Console, bytes: &[u8]) {
+    if !console.is_given_up() {
+        keep(console, console.out.write_all(bytes));
+    }
+}
+
 // A part of a message on standard error. Where that cannot be written, there is nowhere to say so.
 pub fn note<T: fmt::Display + Drop>(console: &Console, text: T) {
     let _ = console.err.print(text);

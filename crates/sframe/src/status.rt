@@ -1,6 +1,8 @@
 // What a run comes to, for the command `sframe`, which starts this program: it listens on a descriptor of its own, and says so by a
 // last argument. At its end the run says a 1 there where something is refused, a 2 where something is wrong, and behind it a 0: the
 // highest digit counts.
+ghost use Rattle.std.specs.Prelude.{◌≤◌, length};
+
 use crate::console::{Console, Status};
 use std::env::FillError;
 use std::fs::OpenOptions;
@@ -14,7 +16,9 @@ const STATUS_FILE: &str = "/dev/fd/9";
 pub const ARGUMENT: usize = 4096;
 
 // Argument i, put into a room: nothing where it is missing, or longer than the room.
-pub fn argument<'a>(rt: &impl Env, i: usize, room: &'a mut [u8]) -> &'a [u8] {
+pub fn argument<'a>(rt: &impl Env, i: usize, room: &'a mut [u8]) -> &'a [u8]
+    ensures { length result.now ≤ length room.old }
+{
     match rt.arg(i, room) {
         Ok(n) => &room[..n],
         Err(_) => &[],

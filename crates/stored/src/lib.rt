@@ -1,5 +1,5 @@
-// What the stored cases of `replay` and `reasons` have in common: the words that they say where to begin by, and rows, registers and
-// broken rules as the lines of what is expected show them.
+// What the stored cases of `replay` and `reasons` have in common: the words that they say where to begin by. And rows, registers and
+// broken rules as the lines of what `replay` is expected to say show them.
 #![tactic(auto)]
 
 ghost use Rattle.std.specs.Prelude.{◌≡◌, ◌+◌, ◌*◌, ◌≤◌, length};
