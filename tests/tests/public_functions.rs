@@ -577,7 +577,7 @@ fn every_public_function_of_a_program_is_excepted() {
     let document = text_of(&in_repository("docs/PROMISES.md"));
     assert!(!functions.is_empty(), "no program was found");
     assert!(
-        document.contains("`load` and `read_into` of `reading` are parts of the programs"),
+        document.contains("but for `load` and `read_into` of `reading`, which read a file"),
         "PROMISES names no exception"
     );
     for (library, name) in EXCEPTED {

@@ -51,16 +51,17 @@ fn case_behind<'a>(head: &'a [u8; 66], behind: &'a [u8]) -> Option<(Case<'a>, &'
     Some((case, behind))
 }
 
-// The number that 8 decimal digits make, which is no larger than this.
-const NUMBER: usize = 99_999_999;
+// The largest number of 8 decimal digits.
+const LARGEST: usize = 99_999_999;
 
+// The number that 8 decimal digits make.
 fn number_in(digits: &[u8]) -> usize
     ensures { result < 100000000 }
 {
     let number = digits.iter().fold(0usize, |number, text| {
         number.saturating_mul(10).saturating_add(digit(*text))
     });
-    number.min(NUMBER)
+    number.min(LARGEST)
 }
 
 // How many bytes so many questions have.
