@@ -1,7 +1,7 @@
 //! Holds what crates/promises states against the public functions of the libraries: each has a statement about its own
-//! contract, but for two that read a file; each that asks something of its callers is shown to ask for what can be, and
-//! docs/PROMISES.md says why it asks. What the prover cannot see is found here: a function that nothing is stated of. A
-//! static library has no function of its own: each is one of a library, says what that one says, and calls it.
+//! contract, each that asks something of its callers is shown to ask for what can be, and docs/PROMISES.md says why it
+//! asks. What the prover cannot see is found here: a function that nothing is stated of. A static library has no function
+//! of its own: each is one of a library, says what that one says, and calls it.
 
 use std::fs;
 use std::path::{Path, PathBuf};
@@ -110,6 +110,28 @@ fn named(words: &[&str]) -> Option<(String, bool)> {
         ["fn", name, ..] => Some((name.to_string(), has_requires(&words[at + 2..]))),
         _ => None,
     }
+}
+
+/// The traits whose methods a source writes by itself, each with its type. A caller reaches such a method with no `pub`.
+fn traits_written(text: &str) -> Vec<String> {
+    let bare = bare(text);
+    let words = words(&bare);
+    let mut found = Vec::new();
+    let mut depth = 0;
+    let mut before = "}";
+    for (at, word) in words.iter().enumerate() {
+        match *word {
+            "{" => depth += 1,
+            "}" => depth -= 1,
+            "impl" if depth == 0 && ["}", "]", ";", "unsafe"].contains(&before) => {
+                let head: Vec<&str> = words[at + 1..].iter().copied().take_while(|word| *word != "{").collect();
+                found.extend(head.contains(&"for").then(|| head.join(" ")));
+            }
+            _ => {}
+        }
+        before = word;
+    }
+    found
 }
 
 /// Whether a `requires` stands between a function's name and its body. An `ensures` is braced as a body is.
@@ -379,15 +401,15 @@ fn faults(functions: &[Function], proofs: &[Proofs], document: &str) -> Vec<Stri
     faults
 }
 
-/// A program's public functions answer nothing that could be stated, nor does what is excepted of a library: the document
-/// says of each that it is excepted, and of no other.
+/// A program's public functions answer nothing that could be stated: the document says of each that it is excepted, and
+/// of no other.
 fn excepted_faults(functions: &[Found], document: &str) -> Vec<String> {
     let excepted: Vec<&str> =
         rows(document).into_iter().filter(|(_, head)| head.starts_with("| Excepted |")).map(|(name, _)| name).collect();
     let silent = functions.iter().filter(|function| !excepted.contains(&function.name.as_str()));
     let mut faults: Vec<String> = silent.map(|function| format!("{}: it is not excepted", function.name)).collect();
     let gone = excepted.iter().filter(|name| !functions.iter().any(|function| function.name == **name));
-    faults.extend(gone.map(|name| format!("{name}: nothing has what is excepted")));
+    faults.extend(gone.map(|name| format!("{name}: no program has what is excepted")));
     faults
 }
 
@@ -490,15 +512,7 @@ fn static_libraries() -> Vec<String> {
     crates.lines().filter_map(|line| line.split_once(" staticlib:")).map(|(name, _)| name.to_string()).collect()
 }
 
-/// The public functions of a library, with their library, of which nothing could be stated: they read a file for the
-/// programs, and no contract of the standard library says what a file gives.
-const EXCEPTED: [(&str, &str); 2] = [("reading", "load"), ("reading", "read_into")];
-
-fn is_excepted(library: &str, function: &str) -> bool {
-    EXCEPTED.contains(&(library, function))
-}
-
-/// The public functions of all libraries, but for the static ones and what is excepted.
+/// The public functions of all libraries, but for the static ones.
 fn of_libraries() -> Vec<Function> {
     let is_static = |path: &PathBuf| static_libraries().iter().any(|name| path.ends_with(name));
     let libraries = listed(&in_repository("crates")).into_iter().filter(|path| path.join("src/lib.rt").exists());
@@ -506,8 +520,7 @@ fn of_libraries() -> Vec<Function> {
     let mut functions = Vec::new();
     for library in libraries {
         let name = library.file_name().and_then(|name| name.to_str()).expect("a name");
-        let found = functions_of(name, &sources_in(&library.join("src"), ""));
-        functions.extend(found.into_iter().filter(|function| !is_excepted(name, &function.name)));
+        functions.extend(functions_of(name, &sources_in(&library.join("src"), "")));
     }
     let named = Proofs::of(&text_of(&in_repository("crates/promises/specs/ReaderSays.antt")));
     for function in &mut functions {
@@ -554,6 +567,20 @@ fn every_public_function_is_spoken_of() {
 }
 
 #[test]
+fn no_library_writes_the_methods_of_a_trait() {
+    let libraries = listed(&in_repository("crates")).into_iter().filter(|path| path.join("src/lib.rt").exists());
+    let sources: Vec<Source> = libraries.flat_map(|library| sources_in(&library.join("src"), "")).collect();
+    assert!(!sources.is_empty(), "no library was found");
+    let found: Vec<String> = sources.iter().flat_map(|source| traits_written(&source.text)).collect();
+    assert_eq!(found, [""; 0]);
+    // It can fail.
+    let text = "use std::fmt;\n#[derive(Drop)]\npub struct Pair;\nimpl fmt::Display for Pair { fn fmt() {} }\n";
+    assert_eq!(traits_written(text), ["fmt : : Display for Pair"]);
+    assert_eq!(traits_written("impl<T> From<T> for Pair {}\nimpl Pair { fn each() { for _ in 0..2 {} } }").len(), 1);
+    assert_eq!(traits_written("fn read(from: &mut impl Read) { for _ in 0..2 {} }"), [""; 0]);
+}
+
+#[test]
 fn a_static_library_says_and_does_what_its_library_does() {
     let libraries = static_libraries();
     assert_eq!(libraries, ["measure_c", "measure_lines_c", "suntimpani_c"]);
@@ -566,24 +593,13 @@ fn a_static_library_says_and_does_what_its_library_does() {
     }
 }
 
-fn found_in(folder: &Path) -> Vec<Found> {
-    sources_in(folder, "").iter().flat_map(|source| public_functions(&source.text)).collect()
-}
-
 #[test]
 fn every_public_function_of_a_program_is_excepted() {
     let programs = listed(&in_repository("crates")).into_iter().filter(|path| path.join("src/main.rt").exists());
-    let mut functions: Vec<Found> = programs.flat_map(|program| found_in(&program.join("src"))).collect();
+    let sources: Vec<Source> = programs.flat_map(|program| sources_in(&program.join("src"), "")).collect();
+    let functions: Vec<Found> = sources.iter().flat_map(|source| public_functions(&source.text)).collect();
     let document = text_of(&in_repository("docs/PROMISES.md"));
     assert!(!functions.is_empty(), "no program was found");
-    assert!(
-        document.contains("but for `load` and `read_into` of `reading`, which read a file"),
-        "PROMISES names no exception"
-    );
-    for (library, name) in EXCEPTED {
-        let found = found_in(&in_repository("crates").join(library).join("src"));
-        functions.extend(found.into_iter().filter(|function| function.name == name));
-    }
     assert_eq!(excepted_faults(&functions, &document), Vec::<String>::new());
 }
 
@@ -817,16 +833,9 @@ fn what_is_said_of_no_function_is_found() {
 }
 
 #[test]
-fn what_is_excepted_is_of_its_library_alone() {
-    assert!(is_excepted("reading", "load"));
-    assert!(!is_excepted("reading", "digit"));
-    assert!(!is_excepted("stored", "load"));
-}
-
-#[test]
 fn an_exception_is_of_a_program_that_has_it() {
     let functions = public_functions("pub fn say(text: &[u8]) {}\npub fn loud(text: &[u8]) {}");
     let document = "| Excepted | What it prints |\n|---|---|\n| `say` | a text |\n| `gone` | nothing |\n";
     let faults = excepted_faults(&functions, document);
-    assert_eq!(faults, ["loud: it is not excepted", "gone: nothing has what is excepted"]);
+    assert_eq!(faults, ["loud: it is not excepted", "gone: no program has what is excepted"]);
 }

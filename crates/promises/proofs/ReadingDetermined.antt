@@ -1,5 +1,4 @@
--- `digit` of `reading` determines its reply: two that its own contract allows for one byte are equal. `load` reads a file, which no
--- contract of the standard library says anything of.
+-- `digit` of `reading` determines its reply: two that its own contract allows for one byte are equal.
 -- Assumes nothing.
 use mathlib.Core.Path.{refl, sym, ◌∙◌}
 use Rattle.reading.proofs.digit.Kinds as digit-kinds

@@ -1,11 +1,11 @@
 // Verdicts and answers as lines of text.
+use crate::shown::{Broken, Shown};
 use accept::verdict::Refusal;
 use ask::answer::{AskFound, AskRefusal};
 use lookup::answer::{Answer, Found, Unfound};
 use section::row::Row;
 use std::io;
 use std::io::Write;
-use stored::{Broken, Shown};
 
 pub fn show_verdict(out: &mut impl Write, verdict: Result<(), Refusal>) -> io::Result<()> {
     match verdict {

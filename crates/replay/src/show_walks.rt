@@ -1,9 +1,9 @@
 // Steps and traces as lines of text.
+use crate::shown::{Broken, Words};
 use crate::walks::Walk;
 use caller::registers::{Registers, StepCause, StepRefusal};
 use std::io::Write;
 use std::{fmt, io};
-use stored::{Broken, Words};
 use trace::answer::{Ending, TraceRefusal, Traced};
 
 // Why there is no caller, by its number.

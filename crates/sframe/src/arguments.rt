@@ -2,11 +2,10 @@
 ghost use Rattle.std.specs.Prelude.{◌≤◌, length, IfSome};
 
 use crate::console::Console;
-use crate::rooms::{LARGEST, Long, Room, in_rooms};
+use crate::rooms::{LARGEST, Long, Room, in_rooms, read_into};
 use crate::say::{Given, complain, complain_of_error, note};
 use crate::status::{ARGUMENT, argument};
 use digits::{parse, parse_decimal};
-use reading::read_into;
 use std::env::FillError;
 use std::io::{Read, Seek};
 use std::rt::{Env, Files};

@@ -1,10 +1,9 @@
-// How much of a file can be read. The room for it lies on this program's stack, which the system limits; so there are rooms of four
-// sizes, and what the limit leaves tells which of them can be had.
+// How much of a file can be read, and reading it. The room for it lies on this program's stack, which the system limits; so there are rooms
+// of four sizes, and what the limit leaves tells which of them can be had.
 ghost use Rattle.std.specs.Prelude.{◌<◌, ◌≤◌, ◌^◌, length};
 
 use crate::arguments::{Opened, open_read};
 use digits::parse_decimal;
-use reading::read_into;
 use std::io;
 use std::io::Read;
 use std::rt::Files;
@@ -115,6 +114,33 @@ fn number_behind(text: &[u8], name: &[u8]) -> Option<u64> {
     let number = blanks.get(first..)?;
     let end = number.iter().position(|byte| !byte.is_ascii_digit());
     parse_decimal(number.get(..end.unwrap_or(number.len()))?)
+}
+
+// Reads a file from where it stands to its end, as far as there is room, and answers how much of the room that fills. A read that
+// fails ends it. Each read may fill all that is left: of a packet that is longer than what is asked for, the rest would be lost.
+fn fill(file: &mut impl Read, room: &mut [u8]) -> (usize, io::Result<()>)
+    ensures { result.0 ≤ length room.new }
+{
+    let mut filled = 0;
+    for _ in 0..room.len() {
+        if room.len() <= filled {
+            break;
+        }
+        match file.read(&mut room[filled..]) {
+            Ok(0) => break,
+            Ok(more) => filled += more,
+            Err(error) => return (filled, Err(error)),
+        }
+    }
+    (filled, Ok(()))
+}
+
+// What a file holds from where it stands, as far as there is room, and whether a read failed.
+pub fn read_into<'a>(file: &mut impl Read, room: &'a mut [u8]) -> (&'a [u8], io::Result<()>)
+    ensures { length result.0.now ≤ length room.old }
+{
+    let (filled, end) = fill(file, room);
+    (&room[..filled], end)
 }
 
 // The first bytes of a file of the system's; none where it cannot be read.

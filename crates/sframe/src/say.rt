@@ -1,10 +1,9 @@
 // Text and numbers on standard output, and on standard error what is wrong with a command line, or may help.
 use crate::console::Console;
 use crate::status::tell_wrong;
-use reading::Worded;
-use std::io::Print;
+use std::io::{Print, Write};
 use std::os::fd::AsFd;
-use std::{fmt, io};
+use std::{fmt, io, str};
 
 // The system's number for a descriptor that is closed, or not open for what is asked of it.
 const BAD_DESCRIPTOR: i32 = 9;
@@ -69,6 +68,29 @@ pub fn note<T: fmt::Display + Drop>(console: &Console, text: T) {
 pub fn complain<T: fmt::Display + Drop>(console: &Console, text: T) {
     note(console, text);
     tell_wrong(console);
+}
+
+// The bytes that an error says of itself, at most.
+const MESSAGE: usize = 256;
+
+// An error as the system words it, without the number that std puts behind that.
+#[derive(Drop)]
+struct Worded(io::Error);
+
+impl fmt::Display for Worded {
+    fn fmt<W: fmt::Write>(&self, f: &mut fmt::Formatter<W>) -> fmt::Result {
+        let mut room = [0u8; MESSAGE];
+        let mut rest: &mut [u8] = &mut room;
+        let error = &self.0;
+        let _ = write!(rest, "{error}");
+        let end = MESSAGE.saturating_sub(rest.len());
+        let said = room.get(..end).unwrap_or(&[]);
+        let said = str::from_utf8(said).unwrap_or("");
+        let message = said
+            .split_once(" (os error ")
+            .map_or(said, |(front, _)| front);
+        f.write_str(message)
+    }
 }
 
 // What failed, as the caller names it, and what the system says of the error.

@@ -1,16 +1,12 @@
-// What the stored cases of `replay` and `reasons` have in common: the words that they say where to begin by. And rows, registers and
-// broken rules as the lines of what `replay` is expected to say show them.
+// What the stored cases of `replay` and `reasons` have in common: the words that they say where to begin by.
 #![tactic(auto)]
 
 ghost use Rattle.std.specs.Prelude.{◌≡◌, ◌+◌, ◌*◌, ◌≤◌, length};
 ghost use Rattle.numbers.specs.Field.{field_of};
 ghost use Rattle.numbers.specs.declared.field.Order.TheVariants.{Little};
 
-use accept::verdict::Refusal;
 use caller::registers::{Process, Registers};
 use numbers::field::{Order, u64_at};
-use section::row::{Base, Place, Row};
-use std::fmt;
 
 // Word k of bytes: 8 of them, little-endian.
 pub fn word_in(bytes: &[u8], k: usize) -> u64
@@ -45,69 +41,4 @@ pub fn start_in(bytes: &[u8]) -> (Process, Registers)
         first: word_in(bytes, 7),
     };
     (process, registers)
-}
-
-// The rule that a section breaks, and the entry's index.
-#[derive(Clone, Copy)]
-pub struct Broken(pub Refusal);
-
-impl fmt::Display for Broken {
-    fn fmt<W: fmt::Write>(&self, f: &mut fmt::Formatter<W>) -> fmt::Result {
-        let number = self.0.rule.number();
-        let index = self.0.index;
-        write!(f, "{number} at {index}")
-    }
-}
-
-// Registers, in 16 hexadecimal digits each.
-#[derive(Clone, Copy)]
-pub struct Words(pub Registers);
-
-impl fmt::Display for Words {
-    fn fmt<W: fmt::Write>(&self, f: &mut fmt::Formatter<W>) -> fmt::Result {
-        let Registers {
-            pc,
-            sp,
-            fp,
-            lr,
-            first,
-        } = self.0;
-        write!(f, "{pc:016x} {sp:016x} {fp:016x} {lr:016x} {first:016x}")
-    }
-}
-
-// Where a register is saved. An offset has its sign, and 0 is +0.
-#[derive(Clone, Copy)]
-struct Saved(Place);
-
-impl fmt::Display for Saved {
-    fn fmt<W: fmt::Write>(&self, f: &mut fmt::Formatter<W>) -> fmt::Result {
-        match self.0 {
-            Place::Register => f.write_str("register"),
-            Place::AtOffset(offset) => write!(f, "cfa{:+}", offset.by),
-        }
-    }
-}
-
-// A row in numbers.
-#[derive(Clone, Copy)]
-pub struct Shown(pub Row);
-
-impl fmt::Display for Shown {
-    fn fmt<W: fmt::Write>(&self, f: &mut fmt::Formatter<W>) -> fmt::Result {
-        let row = self.0;
-        let start = row.start;
-        let base = match row.base {
-            Base::Fp => "fp",
-            Base::Sp => "sp",
-        };
-        let cfa = row.cfa.by;
-        let ra = Saved(row.ra);
-        let fp = Saved(row.fp);
-        let signed = row.signed as u8;
-        write!(
-            f,
-            "start {start} cfa {base}{cfa:+} ra {ra} fp {fp} signed {signed}"
-        )
-    }
 }

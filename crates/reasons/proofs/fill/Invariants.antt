@@ -1,6 +1,6 @@
 -- `fill` fills no more than the room.
 use Rattle.std.proofs.Common.{◌≤◌, length}
-use Rattle.reading.proofs.fill.Given as goal
+use Rattle.reasons.proofs.fill.Given as goal
 
 abbrev pub invariant-loop : goal.invariant-loop
 invariant-loop g l = l.filled ≤ length l.room
