@@ -116,22 +116,10 @@ fn named(words: &[&str]) -> Option<(String, bool)> {
 fn traits_written(text: &str) -> Vec<String> {
     let bare = bare(text);
     let words = words(&bare);
-    let mut found = Vec::new();
-    let mut depth = 0;
-    let mut before = "}";
-    for (at, word) in words.iter().enumerate() {
-        match *word {
-            "{" => depth += 1,
-            "}" => depth -= 1,
-            "impl" if depth == 0 && ["}", "]", ";", "unsafe"].contains(&before) => {
-                let head: Vec<&str> = words[at + 1..].iter().copied().take_while(|word| *word != "{").collect();
-                found.extend(head.contains(&"for").then(|| head.join(" ")));
-            }
-            _ => {}
-        }
-        before = word;
-    }
-    found
+    let begins = |at: usize| at == 0 || ["{", "}", "]", ";", "unsafe"].contains(&words[at - 1]);
+    let impls = (0..words.len()).filter(|&at| words[at] == "impl" && begins(at));
+    let heads = impls.map(|at| words[at + 1..].iter().copied().take_while(|word| *word != "{").collect());
+    heads.filter(|head: &Vec<&str>| head.contains(&"for")).map(|head| head.join(" ")).collect()
 }
 
 /// Whether a `requires` stands between a function's name and its body. An `ensures` is braced as a body is.
@@ -578,6 +566,7 @@ fn no_library_writes_the_methods_of_a_trait() {
     assert_eq!(traits_written(text), ["fmt : : Display for Pair"]);
     assert_eq!(traits_written("impl<T> From<T> for Pair {}\nimpl Pair { fn each() { for _ in 0..2 {} } }").len(), 1);
     assert_eq!(traits_written("fn read(from: &mut impl Read) { for _ in 0..2 {} }"), [""; 0]);
+    assert_eq!(traits_written("mod inner { unsafe impl Send for Pair {} }"), ["Send for Pair"]);
 }
 
 #[test]
